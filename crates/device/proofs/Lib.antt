@@ -1,0 +1,5 @@
+pub mod Supplies
+pub mod Cases
+pub mod Areas
+pub mod Overlays
+pub mod Writes

@@ -1,0 +1,213 @@
+// The command language: one command a line, its words parted by spaces.
+use std::fmt;
+
+#[derive(Clone, Copy)]
+pub enum Make {
+    Flat,
+    Image,
+}
+
+#[derive(Clone, Copy)]
+pub enum LinkKind {
+    Slot,
+    Hop,
+}
+
+// A card as `new` asks for it.
+#[derive(Clone, Copy)]
+pub struct CardPlan {
+    pub make: Make,
+    pub blocks: u64,
+    pub slots: u64,
+}
+
+#[derive(Clone, Copy)]
+pub enum Command<'a> {
+    New {
+        zero: CardPlan,
+        one: CardPlan,
+        link: LinkKind,
+    },
+    Load {
+        node: u64,
+        file: &'a str,
+    },
+    Show,
+    OnCard {
+        node: u64,
+        act: CardAct<'a>,
+    },
+}
+
+// What is done straight on one card.
+#[derive(Clone, Copy)]
+pub enum CardAct<'a> {
+    Power { supply: u64 },
+    Write { block: u64, text: &'a str },
+    Read { block: u64 },
+    Save { file: &'a str },
+}
+
+// Why a line is no command.
+#[derive(Clone, Copy)]
+pub enum Complaint {
+    Unknown,
+    Missing(&'static str),
+    NotANumber(&'static str),
+    NotAMake,
+    NotALink,
+    TooMuch,
+}
+
+pub impl fmt::Display for Complaint as ComplaintDisplay {
+    fn fmt<W: fmt::Write>(&self, f: &mut fmt::Formatter<W>) -> fmt::Result {
+        match *self {
+            Complaint::Unknown => write!(f, "no such command"),
+            Complaint::Missing(what) => write!(f, "{what} is missing"),
+            Complaint::NotANumber(what) => write!(f, "{what} is not a number"),
+            Complaint::NotAMake => write!(f, "a card is flat or image"),
+            Complaint::NotALink => write!(f, "a link is slot or hop"),
+            Complaint::TooMuch => write!(f, "more words than the command takes"),
+        }
+    }
+}
+
+// The command in a line: without the blanks around it, and without a comment. A text goes on to the line's end.
+pub fn body(line: &str) -> &str {
+    let start = line.trim_start();
+    if takes_text(first_word(start)) {
+        return start;
+    }
+    match start.split_once('#') {
+        Some((before, _)) => before.trim_end(),
+        None => start.trim_end(),
+    }
+}
+
+fn first_word(text: &str) -> &str {
+    match text.split_once(' ') {
+        Some((word, _)) => word,
+        None => text,
+    }
+}
+
+fn takes_text(verb: &str) -> bool {
+    matches!(verb, "card-write")
+}
+
+// The words of a command that are still to be read.
+#[derive(Drop)]
+struct Words<'a> {
+    rest: &'a str,
+}
+
+impl<'a> Words<'a> {
+    fn next(&mut self) -> Option<&'a str> {
+        let text = self.rest.trim_start();
+        if text.is_empty() {
+            return None;
+        }
+        match text.split_once(' ') {
+            Some((word, rest)) => {
+                self.rest = rest;
+                Some(word)
+            }
+            None => {
+                self.rest = "";
+                Some(text)
+            }
+        }
+    }
+
+    fn word(&mut self, what: &'static str) -> Result<&'a str, Complaint> {
+        match self.next() {
+            Some(word) => Ok(word),
+            None => Err(Complaint::Missing(what)),
+        }
+    }
+
+    fn number(&mut self, what: &'static str) -> Result<u64, Complaint> {
+        let word = self.word(what)?;
+        match text::number(word) {
+            Some(n) => Ok(n),
+            None => Err(Complaint::NotANumber(what)),
+        }
+    }
+
+    fn card_plan(&mut self) -> Result<CardPlan, Complaint> {
+        let make = match self.word("a card's make")? {
+            "flat" => Make::Flat,
+            "image" => Make::Image,
+            _ => return Err(Complaint::NotAMake),
+        };
+        let blocks = self.number("the count of blocks")?;
+        let slots = self.number("the count of slots")?;
+        Ok(CardPlan {
+            make,
+            blocks,
+            slots,
+        })
+    }
+
+    fn link_kind(&mut self) -> Result<LinkKind, Complaint> {
+        match self.word("the link's kind")? {
+            "slot" => Ok(LinkKind::Slot),
+            "hop" => Ok(LinkKind::Hop),
+            _ => Err(Complaint::NotALink),
+        }
+    }
+}
+
+// The command of a body that has one, which a blank line or a comment has not.
+pub fn parse(body: &str) -> Result<Option<Command<'_>>, Complaint> {
+    let mut words = Words { rest: body };
+    let Some(verb) = words.next() else {
+        return Ok(None);
+    };
+    let command = match verb {
+        "new" => new(&mut words)?,
+        "load" => Command::Load {
+            node: words.number("the node")?,
+            file: words.word("the file")?,
+        },
+        "show" => Command::Show,
+        _ => on_card(verb, &mut words)?,
+    };
+    if words.next().is_some() {
+        return Err(Complaint::TooMuch);
+    }
+    Ok(Some(command))
+}
+
+fn new<'a>(words: &mut Words<'a>) -> Result<Command<'a>, Complaint> {
+    let zero = words.card_plan()?;
+    let one = words.card_plan()?;
+    let link = words.link_kind()?;
+    Ok(Command::New { zero, one, link })
+}
+
+fn on_card<'a>(verb: &str, words: &mut Words<'a>) -> Result<Command<'a>, Complaint> {
+    match verb {
+        "power" | "card-write" | "card-read" | "save" => {}
+        _ => return Err(Complaint::Unknown),
+    }
+    let node = words.number("the node")?;
+    let act = match verb {
+        "power" => CardAct::Power {
+            supply: words.number("the supply")?,
+        },
+        "card-read" => CardAct::Read {
+            block: words.number("the block")?,
+        },
+        "save" => CardAct::Save {
+            file: words.word("the file")?,
+        },
+        _ => {
+            let block = words.number("the block")?;
+            let text = words.rest;
+            words.rest = "";
+            CardAct::Write { block, text }
+        }
+    };
+    Ok(Command::OnCard { node, act })
+}
