@@ -6,7 +6,7 @@ ghost use lib.Dec.{leb};
 ghost use lib.ListN.{length};
 ghost use Rattle.std.specs.Of.String.{string-bytes};
 ghost use Rattle.std.specs.Vec.{made};
-ghost use Rattle.text.specs.Text.{numberOf, trimmedOf, filled, hexDigit, plain, spelled, shownOf};
+ghost use Rattle.text.specs.Text.{numberOf, trimmedOf, filled, hexDigit, plain, spelled, spelledAll, shownOf};
 use std::alloc::AllocError;
 use std::alloc::Global;
 
@@ -79,14 +79,20 @@ fn spell(text: &mut String, b: u8) -> Result<(), AllocError>
     Ok(())
 }
 
+// The bytes as text, spelled one by one.
+pub fn spelled_out(heap: Global, bytes: &[u8]) -> Result<String, AllocError>
+    ensures { λ r. ⌜ made r (λ t. string-bytes t ≡ spelledAll (now (bytes .entry))) ⌝ }
+{
+    let mut text = String::new(heap);
+    for b in bytes {
+        spell(&mut text, *b)?;
+    }
+    Ok(text)
+}
+
 // A block as text: its bytes up to the trailing zeros, spelled one by one.
 pub fn shown(heap: Global, bytes: &[u8]) -> Result<String, AllocError>
     ensures { λ r. ⌜ made r (λ t. string-bytes t ≡ shownOf (now (bytes .entry))) ⌝ }
 {
-    let mut text = String::new(heap);
-    let front = trimmed(bytes);
-    for b in front {
-        spell(&mut text, *b)?;
-    }
-    Ok(text)
+    spelled_out(heap, trimmed(bytes))
 }

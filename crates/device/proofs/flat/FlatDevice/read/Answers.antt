@@ -1,10 +1,9 @@
 use Prim.Native.Nat.{_+_, _-_, _*_}
-use mathlib.Core.Path.{_≡_, sym, _∙_}
 use native.Mathlib.Omega.{arith}
 use Rattle.std.proofs.shelf.Results.{err-from-errBy}
 use Rattle.device.specs.Makes.{carried, flat}
-use Rattle.device.proofs.Areas.{length-parts, getD-parts}
-use Rattle.device.proofs.Cases.{read-refused, read-done}
+use Rattle.device.proofs.Cases.{read-refused}
+use Rattle.device.proofs.Copies.{flat-read}
 use Rattle.device.proofs.flat.FlatDevice.read.Needs as need
 
 pub returns-in-Break-may-read : need.returns-in-Break-may-read
@@ -17,7 +16,7 @@ returns-in-Break-may-read c =
 pub returns : need.returns
 returns c =
     let s = c .args .self .now in
+    let i = c .args .block in
     let t = c .in-Continue-may-read .ensures tt .passed in
-    let w = read-done (flat (s .area .now) (carried (s .supply .left))) (c .args .block) (c .args .buffer .now) (rw length-parts (omega arith)) (t .1) in
-    let k : c .args .block * 512 + 512 - c .args .block * 512 ≡ 512 = omega arith in
-    record { answer = w .0; bytes = c .copy-from-slice .ensures .after ∙ (rw k (sym (getD-parts 512 _ (c .args .block) (s .area .now) (omega arith)) ∙ w .1)) }
+    let w = flat-read (s .area .now) (c .args .buffer .now) _ i (carried (s .supply .left)) (i * 512) (i * 512 + 512 - i * 512) (c .copy-from-slice .ensures .after) (omega arith) (t .1) (omega arith) (omega arith) in
+    record { answer = w .0; bytes = w .1 }

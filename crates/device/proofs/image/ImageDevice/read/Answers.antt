@@ -1,10 +1,9 @@
 use Prim.Native.Nat.{_+_, _-_, _*_}
-use mathlib.Core.Path.{_≡_, _∙_}
 use native.Mathlib.Omega.{arith}
 use Rattle.std.proofs.shelf.Results.{err-from-errBy}
 use Rattle.device.specs.Makes.{carried, imaged}
-use Rattle.device.proofs.Cases.{read-refused, read-done}
-use Rattle.device.proofs.Overlays.{imaged-count, unmarked-block, marked-block}
+use Rattle.device.proofs.Cases.{read-refused}
+use Rattle.device.proofs.Copies.{unmarked-read, marked-read}
 use Rattle.device.proofs.image.ImageDevice.read.Needs as need
 
 pub returns-in-Break-may-read : need.returns-in-Break-may-read
@@ -17,17 +16,17 @@ returns-in-Break-may-read c =
 pub returns-then-self-record-eq0 : need.returns-then-self-record-eq0
 returns-then-self-record-eq0 c =
     let s = c .args .self .now in
+    let i = c .args .block in
     let t = c .in-Continue-may-read .ensures tt .passed in
-    let w = read-done (imaged (s .factory .now) (s .area .now) (carried (s .supply .left))) (c .args .block) (c .args .buffer .now) (rw imaged-count (omega arith)) (t .1) in
-    let k : c .args .block * 512 + 512 - c .args .block * 512 ≡ 512 = omega arith in
-    let b = unmarked-block (s .factory .now) (s .area .now) (carried (s .supply .left)) (c .args .block) (omega arith) (omega arith) (c .if-self-record-eq0 .taken) in
-    record { answer = w .0; bytes = c .copy-from-slice .ensures .after ∙ (rw k (b ∙ w .1)) }
+    let w = unmarked-read (s .factory .now) (s .area .now) (c .args .buffer .now) _ i (carried (s .supply .left)) (i * 512) (i * 512 + 512 - i * 512) (i * 513)
+    (c .copy-from-slice .ensures .after) (c .if-self-record-eq0 .taken) (omega arith) (omega arith) (t .1) (omega arith) (omega arith) (omega arith) in
+    record { answer = w .0; bytes = w .1 }
 
 pub returns-else-self-record-eq0 : need.returns-else-self-record-eq0
 returns-else-self-record-eq0 c =
     let s = c .args .self .now in
+    let i = c .args .block in
     let t = c .in-Continue-may-read .ensures tt .passed in
-    let w = read-done (imaged (s .factory .now) (s .area .now) (carried (s .supply .left))) (c .args .block) (c .args .buffer .now) (rw imaged-count (omega arith)) (t .1) in
-    let k : c .args .block * 513 + 513 - (c .args .block * 513 + 1) ≡ 512 = omega arith in
-    let b = marked-block (s .factory .now) (s .area .now) (carried (s .supply .left)) (c .args .block) (omega arith) (omega arith) (c .if-self-record-eq0 .left) in
-    record { answer = w .0; bytes = c .copy-from-slice-else-self-record-eq0 .ensures .after ∙ (rw k (b ∙ w .1)) }
+    let w = marked-read (s .factory .now) (s .area .now) (c .args .buffer .now) _ i (carried (s .supply .left)) (i * 513 + 1) (i * 513 + 513 - (i * 513 + 1)) (i * 513)
+    (c .copy-from-slice-else-self-record-eq0 .ensures .after) (c .if-self-record-eq0 .left) (omega arith) (omega arith) (t .1) (omega arith) (omega arith) (omega arith) in
+    record { answer = w .0; bytes = w .1 }

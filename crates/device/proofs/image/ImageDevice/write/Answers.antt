@@ -1,4 +1,3 @@
-use mathlib.Core.Path.{_∙_}
 use native.Mathlib.Omega.{arith}
 use Rattle.std.proofs.shelf.Results.{err-from-errBy}
 use Rattle.device.specs.Makes.{carried, imaged}
@@ -17,5 +16,5 @@ pub returns : need.returns
 returns c =
     let s = c .args .self .now in
     let t = c .in-Continue-may-write .ensures tt .passed in
-    let w = image-wrote (s .factory .now) (s .area .now) (c .args .bytes .now) _ (c .args .block) (carried (s .supply .left)) _ _ (omega arith) (omega arith) (t .1) (t .2) (c .spend-self .ensures) (omega arith) (c .copy-from-slice .ensures .after) in
+    let w = image-wrote (s .factory .now) (s .area .now) (c .args .bytes .now) _ (c .args .block) (carried (s .supply .left)) _ _ _ _ _ (omega arith) (omega arith) (t .1) (t .2) (c .spend-self .ensures) (omega arith) (omega arith) (c .copy-from-slice .ensures .after) (omega arith) (omega arith) in
     record { answer = w .0; after = w .1 }
