@@ -37,6 +37,9 @@ pub enum Command<'a> {
         node: u64,
         act: CardAct<'a>,
     },
+    OnLink {
+        act: LinkAct<'a>,
+    },
 }
 
 // What is done straight on one card.
@@ -46,6 +49,15 @@ pub enum CardAct<'a> {
     Write { block: u64, text: &'a str },
     Read { block: u64 },
     Save { file: &'a str },
+}
+
+// What is done straight on the link; a way goes by the node that sends on it.
+#[derive(Clone, Copy)]
+pub enum LinkAct<'a> {
+    Open,
+    Cut,
+    Send { node: u64, text: &'a str },
+    Take { node: u64 },
 }
 
 // Why a line is no command.
@@ -92,7 +104,7 @@ fn first_word(text: &str) -> &str {
 }
 
 fn takes_text(verb: &str) -> bool {
-    matches!(verb, "card-write")
+    matches!(verb, "card-write" | "link-send")
 }
 
 // The words of a command that are still to be read.
@@ -134,6 +146,13 @@ impl<'a> Words<'a> {
         }
     }
 
+    // All that is left, from the next character on.
+    fn text(&mut self) -> &'a str {
+        let text = self.rest;
+        self.rest = "";
+        text
+    }
+
     fn card_plan(&mut self) -> Result<CardPlan, Complaint> {
         let make = match self.word("a card's make")? {
             "flat" => Make::Flat,
@@ -171,7 +190,9 @@ pub fn parse(body: &str) -> Result<Option<Command<'_>>, Complaint> {
             file: words.word("the file")?,
         },
         "show" => Command::Show,
-        _ => on_card(verb, &mut words)?,
+        "power" | "card-write" | "card-read" | "save" => on_card(verb, &mut words)?,
+        "link-open" | "link-cut" | "link-send" | "link-take" => on_link(verb, &mut words)?,
+        _ => return Err(Complaint::Unknown),
     };
     if words.next().is_some() {
         return Err(Complaint::TooMuch);
@@ -187,10 +208,6 @@ fn new<'a>(words: &mut Words<'a>) -> Result<Command<'a>, Complaint> {
 }
 
 fn on_card<'a>(verb: &str, words: &mut Words<'a>) -> Result<Command<'a>, Complaint> {
-    match verb {
-        "power" | "card-write" | "card-read" | "save" => {}
-        _ => return Err(Complaint::Unknown),
-    }
     let node = words.number("the node")?;
     let act = match verb {
         "power" => CardAct::Power {
@@ -202,12 +219,25 @@ fn on_card<'a>(verb: &str, words: &mut Words<'a>) -> Result<Command<'a>, Complai
         "save" => CardAct::Save {
             file: words.word("the file")?,
         },
-        _ => {
-            let block = words.number("the block")?;
-            let text = words.rest;
-            words.rest = "";
-            CardAct::Write { block, text }
-        }
+        _ => CardAct::Write {
+            block: words.number("the block")?,
+            text: words.text(),
+        },
     };
     Ok(Command::OnCard { node, act })
+}
+
+fn on_link<'a>(verb: &str, words: &mut Words<'a>) -> Result<Command<'a>, Complaint> {
+    let act = match verb {
+        "link-open" => LinkAct::Open,
+        "link-cut" => LinkAct::Cut,
+        "link-take" => LinkAct::Take {
+            node: words.number("the way")?,
+        },
+        _ => LinkAct::Send {
+            node: words.number("the way")?,
+            text: words.text(),
+        },
+    };
+    Ok(Command::OnLink { act })
 }

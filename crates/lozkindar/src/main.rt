@@ -1,10 +1,14 @@
 // Lozkindar's program: follows a script of commands, one a line, from a file or from standard input.
-mod cards;
+mod bench;
+mod card_tools;
 mod command;
+mod link_tools;
+mod run;
 mod script;
 
-use crate::cards::Bench;
-use crate::cards::on_cards;
+use crate::bench::Bench;
+use crate::bench::fit;
+use crate::bench::on_bench;
 use crate::command::Command;
 use crate::script::Outcome;
 use crate::script::Pause;
@@ -24,7 +28,7 @@ fn without_cards(rt: &LibcRuntime, line: Option<&str>) -> Result<Option<Outcome>
         Err(outcome) => return Ok(Some(outcome)),
     };
     match command {
-        Command::New { zero, one, .. } => match cards::fit(zero, one) {
+        Command::New { zero, one, .. } => match fit(zero, one) {
             true => Ok(None),
             false => Ok(Some(Outcome::Refused(Refusal::Measure))),
         },
@@ -54,15 +58,18 @@ fn follow<B: BufRead + Drop>(rt: &LibcRuntime, input: B) -> Result<(), AnyError>
     let mut bench: Option<Bench> = None;
     for _ in 0..u64::MAX {
         let pause = match &mut bench {
-            Some(bench) => on_cards(rt, &mut script, &mut bench.zero, &mut bench.one)?,
+            Some(bench) => on_bench(rt, &mut script, &mut bench.zero, &mut bench.one, bench.link)?,
             None => before_cards(rt, &mut script)?,
         };
         match pause {
             Pause::End => break,
             Pause::Outside => {}
         }
-        if let Ok(Command::New { zero, one, .. }) = script::command_of(rt.alloc(), script.line())? {
-            bench = Some(Bench::new(rt.alloc(), zero, one)?);
+        if let Ok(Command::New { zero, one, link }) = script::command_of(
+            rt.alloc(),
+            script.line(),
+        )? {
+            bench = Some(Bench::new(rt.alloc(), zero, one, link)?);
         }
     }
     match script.troubles() {
@@ -71,7 +78,7 @@ fn follow<B: BufRead + Drop>(rt: &LibcRuntime, input: B) -> Result<(), AnyError>
     }
 }
 
-fn run(rt: &LibcRuntime) -> Result<(), AnyError> {
+fn start(rt: &LibcRuntime) -> Result<(), AnyError> {
     let mut words = env::args(rt)?.skip(1);
     match words.next() {
         Some(path) => follow(rt, BufReader::new(fs::open(rt, path.as_str())?)),
@@ -80,5 +87,5 @@ fn run(rt: &LibcRuntime) -> Result<(), AnyError> {
 }
 
 fn main(rt: LibcRuntime) -> Result<(), AnyError> {
-    rt.report(run(&rt))
+    rt.report(start(&rt))
 }

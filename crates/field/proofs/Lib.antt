@@ -1,0 +1,5 @@
+pub mod Columns
+pub mod Writing
+pub mod Reading
+pub mod Places
+mod Exits

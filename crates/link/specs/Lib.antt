@@ -1,0 +1,4 @@
+pub mod Channel
+pub mod Faults
+pub mod Makes
+pub mod Soundness
