@@ -21,14 +21,16 @@ fn mask(i: usize) -> u8
 
 // The bits of byte k whose data blocks are below `blocks`.
 fn below(blocks: usize, k: usize) -> u8
-    requires { ⌜ k < 512 ⌝ }
     ensures { λ r. ⌜ r ≡ 2 ^ (min 8 (blocks - k * 8)) - 1 ⌝ }
 {
-    if blocks <= k * 8 {
+    let full = blocks / 8;
+    if k < full {
+        return 255;
+    }
+    if k > full {
         return 0;
     }
-    let bits = blocks - k * 8;
-    if bits >= 8 { 255 } else { (1 << bits) - 1 }
+    (1 << (blocks % 8)) - 1
 }
 
 impl Bitmap {
