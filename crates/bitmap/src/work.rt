@@ -1,5 +1,5 @@
 // What is done with a bitmap.
-ghost use Prim.Native.Nat.{min, _+_, _-_, _*_, _/_, _%_, _^_, _<_};
+ghost use Prim.Native.Nat.{min, _-_, _*_, _%_, _^_};
 ghost use mathlib.Core.Path.{_≡_};
 ghost use Rattle.bitmap.specs.Bits.{bit, empty, with, without, withExtent, first, union, counted, next};
 ghost use Rattle.bitmap.specs.Bytes.{bytesOf, readAnswer};
