@@ -41,7 +41,7 @@ packs size xs on l o b =
     fill-by-all (λ k. digitsOf 8 (λ j. on (k * 8 + j))) xs size 0 l
     (λ k h. digits-are 8 (λ j. on (k * 8 + j)) (getD xs k 0) (o k) (λ j i. b k j h i))
 
-getD-packed : (size : ℕ) (on : ℕ → Bool) (k : ℕ) → k < size → getD (packed size on) k 0 ≡ digitsOf 8 (λ j. on (k * 8 + j))
+pub getD-packed : (size : ℕ) (on : ℕ → Bool) (k : ℕ) → k < size → getD (packed size on) k 0 ≡ digitsOf 8 (λ j. on (k * 8 + j))
 unfolding packed
 getD-packed size on k h = getD-map-counting (λ k. digitsOf 8 (λ j. on (k * 8 + j))) 0 size k k 0 h (omega arith)
 

@@ -1,0 +1,5 @@
+mod FirstFit
+mod Shared
+mod Mirror
+mod Harm
+mod Apart

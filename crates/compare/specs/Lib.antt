@@ -1,0 +1,4 @@
+pub mod Sides
+pub mod Rules
+pub mod Meeting
+pub mod Laws
