@@ -1,9 +1,15 @@
 // What is done straight on one card.
 use crate::command::CardAct;
+use crate::command::Damage;
 use crate::script::Outcome;
+use bitmap::Bitmap;
+use card::activity::Activity;
+use card::generation::Generation;
+use card::reading::read_card;
 use device::Device;
 use device::RefusalFromDevice;
 use refusal::Refusal;
+use refusal::RefusalDisplay;
 use std::alloc::AllocError;
 use std::alloc::Global;
 use std::error::AnyError;
@@ -13,6 +19,7 @@ use std::rt::Files;
 pub fn act_on<D: Device>(
     rt: &LibcRuntime,
     device: &mut D,
+    node: usize,
     act: CardAct,
 ) -> Result<Outcome, AnyError> {
     match act {
@@ -20,10 +27,11 @@ pub fn act_on<D: Device>(
         CardAct::Write { block, text } => Ok(done(write(device, block, text.as_bytes()))),
         CardAct::Read { block } => read(rt.alloc(), device, block),
         CardAct::Save { file } => save(rt, device, file),
+        CardAct::Check => Ok(done(check(device, node))),
     }
 }
 
-fn done(answer: Result<(), Refusal>) -> Outcome {
+pub fn done(answer: Result<(), Refusal>) -> Outcome {
     match answer {
         Ok(()) => Outcome::Done,
         Err(refusal) => Outcome::Refused(refusal),
@@ -46,6 +54,35 @@ fn write<D: Device>(device: &mut D, block: u64, words: &[u8]) -> Result<(), Refu
     } else {
         device.write(block as usize, words)?;
     }
+    Ok(())
+}
+
+// Reads the card's metadata as a start would.
+fn check<D: Device>(device: &D, node: usize) -> Result<(), Refusal> {
+    let _ = read_card(device, node)?;
+    Ok(())
+}
+
+// What is wrong with a place on a card of so many blocks, or with the value for it.
+pub fn no_such_byte(damage: Damage, blocks: usize) -> Option<Outcome> {
+    if damage.block >= blocks as u64 {
+        return Some(Outcome::Refused(Refusal::Block));
+    }
+    if damage.byte >= 512 || damage.value > 255 {
+        return Some(Outcome::Refused(Refusal::Measure));
+    }
+    None
+}
+
+// Another value for one byte.
+pub fn poke<D: Device>(device: &mut D, damage: Damage) -> Result<(), Refusal> {
+    if damage.byte >= 512 || damage.value > 255 {
+        return Err(Refusal::Measure);
+    }
+    let mut buffer = [0u8; 512];
+    device.read(damage.block as usize, &mut buffer)?;
+    buffer[damage.byte as usize] = damage.value as u8;
+    device.write(damage.block as usize, &buffer)?;
     Ok(())
 }
 
@@ -103,16 +140,102 @@ fn list_block<D: Device>(
     }
 }
 
+fn yes_no(flag: bool) -> &'static str {
+    if flag { "yes" } else { "no" }
+}
+
+fn list_generation(
+    heap: Global,
+    record: &Generation,
+    lines: &mut String,
+) -> Result<(), AllocError> {
+    let (current, bitmap) = (record.current, record.bitmap);
+    let (recent, older) = (record.history_1, record.history_2);
+    let line = format!(
+        heap,
+        "    generation: current {current}, bitmap {bitmap}, history {recent} and {older}\n"
+    )?;
+    lines.push_str(line.as_str())?;
+    let (serial, slots, blocks) = (record.serial, record.slots, record.blocks);
+    let consistent = yes_no(record.consistent);
+    let primary = yes_no(record.primary);
+    let line = format!(
+        heap,
+        "    serial {serial}, consistent {consistent}, primary {primary}, {slots} slots, {blocks} data blocks\n"
+    )?;
+    lines.push_str(line.as_str())
+}
+
+fn list_activity(heap: Global, record: &Activity, lines: &mut String) -> Result<(), AllocError> {
+    lines.push_str("    active extents:")?;
+    for slot in 0..16 {
+        if let Some(extent) = record.extent_in(slot) {
+            let word = format!(heap, " {extent}")?;
+            lines.push_str(word.as_str())?;
+        }
+    }
+    lines.push('\n')
+}
+
+// A mark for each data block whose bit is set and a dot for each other, 64 to a line; lines of dots alone are left out.
+fn list_bitmap(
+    heap: Global,
+    map: &Bitmap,
+    blocks: usize,
+    lines: &mut String,
+) -> Result<(), AllocError> {
+    let marked = map.count();
+    let line = format!(heap, "    bitmap: {marked} of {blocks} bits set\n")?;
+    lines.push_str(line.as_str())?;
+    for first in (0..blocks).step_by(64) {
+        list_extent(heap, map, first, blocks, lines)?;
+    }
+    Ok(())
+}
+
+fn list_extent(
+    heap: Global,
+    map: &Bitmap,
+    first: usize,
+    blocks: usize,
+    lines: &mut String,
+) -> Result<(), AllocError> {
+    let mut row = String::new(heap);
+    let mut any = false;
+    for block in first..blocks.min(first.saturating_add(64)) {
+        let marked = map.test(block);
+        any = any || marked;
+        row.push(if marked { '#' } else { '.' })?;
+    }
+    if !any {
+        return Ok(());
+    }
+    let line = format!(heap, "      from {first}: {row}\n")?;
+    lines.push_str(line.as_str())
+}
+
+// The records of a card, or what is wrong with them, and its data blocks that are not all zero.
 pub fn list<D: Device>(
     heap: Global,
     device: &D,
-    node: u8,
+    node: usize,
     lines: &mut String,
 ) -> Result<(), AllocError> {
     let count = device.count();
     let head = format!(heap, "  card {node}: {count} blocks\n")?;
     lines.push_str(head.as_str())?;
-    for block in 0..count {
+    match read_card(device, node) {
+        Ok(card) => {
+            list_generation(heap, &card.generation, lines)?;
+            list_activity(heap, &card.activity, lines)?;
+            list_bitmap(heap, &card.bitmap, card.generation.blocks as usize, lines)?;
+        }
+        Err(refusal) => {
+            let line = format!(heap, "    metadata: {refusal}\n")?;
+            lines.push_str(line.as_str())?;
+        }
+    }
+    for block in 3..count {
         list_block(heap, device, block, lines)?;
     }
     Ok(())

@@ -1,4 +1,6 @@
 // The command language: one command a line, its words parted by spaces.
+use compare::Role;
+use compare::Side;
 use std::fmt;
 
 #[derive(Clone, Copy)]
@@ -32,6 +34,10 @@ pub enum Command<'a> {
         node: u64,
         file: &'a str,
     },
+    Poke {
+        node: u64,
+        damage: Damage,
+    },
     Show,
     OnCard {
         node: u64,
@@ -40,6 +46,19 @@ pub enum Command<'a> {
     OnLink {
         act: LinkAct<'a>,
     },
+    Compare {
+        zero: Side,
+        one: Side,
+        word: u64,
+    },
+}
+
+// Another value for one byte of a card.
+#[derive(Clone, Copy)]
+pub struct Damage {
+    pub block: u64,
+    pub byte: u64,
+    pub value: u64,
 }
 
 // What is done straight on one card.
@@ -49,6 +68,7 @@ pub enum CardAct<'a> {
     Write { block: u64, text: &'a str },
     Read { block: u64 },
     Save { file: &'a str },
+    Check,
 }
 
 // What is done straight on the link; a way goes by the node that sends on it.
@@ -66,6 +86,7 @@ pub enum Complaint {
     Unknown,
     Missing(&'static str),
     NotANumber(&'static str),
+    NotAFlag(&'static str),
     NotAMake,
     NotALink,
     TooMuch,
@@ -77,6 +98,7 @@ pub impl fmt::Display for Complaint as ComplaintDisplay {
             Complaint::Unknown => write!(f, "no such command"),
             Complaint::Missing(what) => write!(f, "{what} is missing"),
             Complaint::NotANumber(what) => write!(f, "{what} is not a number"),
+            Complaint::NotAFlag(what) => write!(f, "{what} is not 0 or 1"),
             Complaint::NotAMake => write!(f, "a card is flat or image"),
             Complaint::NotALink => write!(f, "a link is slot or hop"),
             Complaint::TooMuch => write!(f, "more words than the command takes"),
@@ -146,6 +168,14 @@ impl<'a> Words<'a> {
         }
     }
 
+    fn flag(&mut self, what: &'static str) -> Result<bool, Complaint> {
+        match self.number(what)? {
+            0 => Ok(false),
+            1 => Ok(true),
+            _ => Err(Complaint::NotAFlag(what)),
+        }
+    }
+
     // All that is left, from the next character on.
     fn text(&mut self) -> &'a str {
         let text = self.rest;
@@ -165,6 +195,23 @@ impl<'a> Words<'a> {
             make,
             blocks,
             slots,
+        })
+    }
+
+    // A node's side of a comparison.
+    fn side(&mut self) -> Result<Side, Complaint> {
+        Ok(Side {
+            current: self.number("a current generation")?,
+            bitmap: self.number("a bitmap generation")?,
+            recent: self.number("a first history")?,
+            older: self.number("a second history")?,
+            consistent: self.flag("a consistent flag")?,
+            primary: self.flag("a primary flag")?,
+            role: match self.flag("a role")? {
+                true => Role::Primary,
+                false => Role::Secondary,
+            },
+            bits: self.number("a count of bits")?,
         })
     }
 
@@ -189,8 +236,14 @@ pub fn parse(body: &str) -> Result<Option<Command<'_>>, Complaint> {
             node: words.number("the node")?,
             file: words.word("the file")?,
         },
+        "poke" => poke(&mut words)?,
         "show" => Command::Show,
-        "power" | "card-write" | "card-read" | "save" => on_card(verb, &mut words)?,
+        "compare" => Command::Compare {
+            zero: words.side()?,
+            one: words.side()?,
+            word: words.number("the word")?,
+        },
+        "power" | "card-write" | "card-read" | "save" | "check" => on_card(verb, &mut words)?,
         "link-open" | "link-cut" | "link-send" | "link-take" => on_link(verb, &mut words)?,
         _ => return Err(Complaint::Unknown),
     };
@@ -207,6 +260,16 @@ fn new<'a>(words: &mut Words<'a>) -> Result<Command<'a>, Complaint> {
     Ok(Command::New { zero, one, link })
 }
 
+fn poke<'a>(words: &mut Words<'a>) -> Result<Command<'a>, Complaint> {
+    let node = words.number("the node")?;
+    let damage = Damage {
+        block: words.number("the block")?,
+        byte: words.number("the byte")?,
+        value: words.number("the value")?,
+    };
+    Ok(Command::Poke { node, damage })
+}
+
 fn on_card<'a>(verb: &str, words: &mut Words<'a>) -> Result<Command<'a>, Complaint> {
     let node = words.number("the node")?;
     let act = match verb {
@@ -219,6 +282,7 @@ fn on_card<'a>(verb: &str, words: &mut Words<'a>) -> Result<Command<'a>, Complai
         "save" => CardAct::Save {
             file: words.word("the file")?,
         },
+        "check" => CardAct::Check,
         _ => CardAct::Write {
             block: words.number("the block")?,
             text: words.text(),

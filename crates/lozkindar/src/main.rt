@@ -2,6 +2,7 @@
 mod bench;
 mod card_tools;
 mod command;
+mod compare_tools;
 mod link_tools;
 mod run;
 mod script;
@@ -32,6 +33,9 @@ fn without_cards(rt: &LibcRuntime, line: Option<&str>) -> Result<Option<Outcome>
             true => Ok(None),
             false => Ok(Some(Outcome::Refused(Refusal::Measure))),
         },
+        Command::Compare { zero, one, word } => Ok(Some(
+            compare_tools::outcome(rt.alloc(), zero, one, word)?,
+        )),
         _ => {
             let what = String::from_str(rt.alloc(), "no cards yet: make them with new")?;
             Ok(Some(Outcome::Trouble(what)))

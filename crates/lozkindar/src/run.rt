@@ -2,11 +2,13 @@
 use crate::bench::fit;
 use crate::card_tools;
 use crate::command::Command;
+use crate::compare_tools;
 use crate::link_tools;
 use crate::script;
 use crate::script::Outcome;
 use crate::script::Pause;
 use crate::script::Script;
+use card::making::create;
 use device::Device;
 use link::Link;
 use refusal::Refusal;
@@ -46,9 +48,36 @@ fn from_outside<D: Device, E: Device>(
     one: &mut E,
 ) -> Result<Outcome, AnyError> {
     match script::command_of(rt.alloc(), line)? {
+        Ok(
+            Command::New {
+                zero: first,
+                one: second,
+                ..
+            },
+        ) => Ok(create_both(zero, one, first.slots, second.slots)),
         Ok(Command::Load { node: 0, file }) => card_tools::load(rt, zero, file),
         Ok(Command::Load { node: 1, file }) => card_tools::load(rt, one, file),
+        Ok(Command::Poke { node: 0, damage }) => Ok(card_tools::done(card_tools::poke(
+            zero,
+            damage,
+        ))),
+        Ok(Command::Poke { node: 1, damage }) => Ok(card_tools::done(card_tools::poke(
+            one,
+            damage,
+        ))),
         _ => Ok(Outcome::Done),
+    }
+}
+
+fn create_both<D: Device, E: Device>(
+    zero: &mut D,
+    one: &mut E,
+    first: u64,
+    second: u64,
+) -> Outcome {
+    match create(zero, first as usize) {
+        Ok(()) => card_tools::done(create(one, second as usize)),
+        Err(refusal) => Outcome::Refused(refusal),
     }
 }
 
@@ -74,8 +103,15 @@ fn step<D: Device, E: Device, L: Link>(
             false => card_tools::no_card_in(rt, file, zero.count()),
         },
         Command::Show => Ok(Some(show(rt, zero, one, link)?)),
-        Command::OnCard { node: 0, act } => Ok(Some(card_tools::act_on(rt, zero, act)?)),
-        Command::OnCard { node: 1, act } => Ok(Some(card_tools::act_on(rt, one, act)?)),
+        Command::Poke { node, damage } => match node > 1 {
+            true => Ok(Some(Outcome::Refused(Refusal::Node))),
+            false => Ok(card_tools::no_such_byte(damage, zero.count())),
+        },
+        Command::Compare { zero, one, word } => Ok(Some(
+            compare_tools::outcome(rt.alloc(), zero, one, word)?,
+        )),
+        Command::OnCard { node: 0, act } => Ok(Some(card_tools::act_on(rt, zero, 0, act)?)),
+        Command::OnCard { node: 1, act } => Ok(Some(card_tools::act_on(rt, one, 1, act)?)),
         Command::OnCard { .. } => Ok(Some(Outcome::Refused(Refusal::Node))),
         Command::OnLink { act } => Ok(Some(link_tools::act_on(rt.alloc(), link, act)?)),
     }
@@ -92,5 +128,8 @@ fn show<D: Device, E: Device, L: Link>(
     card_tools::list(heap, zero, 0, &mut lines)?;
     card_tools::list(heap, one, 1, &mut lines)?;
     link_tools::draw(heap, link, &mut lines)?;
-    Ok(Outcome::Listing(lines))
+    Ok(Outcome::Told {
+        answer: String::from_str(heap, "ok")?,
+        lines,
+    })
 }

@@ -17,8 +17,8 @@ pub enum Outcome {
     Nothing,
     Done,
     Value(String),
-    // Lines for a person, each with its end.
-    Listing(String),
+    // An answer with lines for a person below it, each with its end.
+    Told { answer: String, lines: String },
     Refused(Refusal),
     // No command, or one that failed outside the cards, as a file that cannot be read.
     Trouble(String),
@@ -86,8 +86,8 @@ impl<B: BufRead> Script<B> {
                 let command = self.command();
                 println!(rt, "{command} -> ok {value}")?;
             }
-            Outcome::Listing(lines) => {
-                self.answer(rt, "ok")?;
+            Outcome::Told { answer, lines } => {
+                self.answer(rt, answer.as_str())?;
                 print!(rt, "{lines}")?;
             }
             Outcome::Refused(refusal) => {
