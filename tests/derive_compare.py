@@ -1,7 +1,8 @@
 #!/usr/bin/env python3
 """Derives compare.script and compare.expected from the rules of the comparison, without the program.
 
-The sides are drawn from small identifiers, so that they often meet, with a fixed seed.
+The sides are drawn from small identifiers, so that they often meet, with a fixed seed. The answers are derived here;
+the names of the rules are only the program's wording for them, copied from crates/compare/specs/Rules.antt.
 """
 import random
 
