@@ -4,5 +4,5 @@ use Rattle.text.proofs.fill.Goals as goal
 
 pub returns : goal.returns
 returns c =
-    let w = laid c.args.block.now c.args.text.now _ _ _ (omega arith) (c.fill.ensures.after (λ y e. e)) c.copy-from-slice.ensures.after (omega arith) in
+    let w = laid c.args.block.now c.args.text.now _ _ _ (omega arith) (c.fill.ensures.after (λ y e. e)) c.copy_from_slice.ensures.after (omega arith) in
     record { answer = w.0; after = w.1 }

@@ -8,7 +8,7 @@ pub loop-b-preserved : goal.loop-b-preserved
 loop-b-preserved c =
     let xs = c.args.bytes.now in
     let i = c.loop-b.b-index in
-    c.in-ok-spell.ensures
+    c.in_ok-spell.ensures
     ∙ ap (λ (z : List ℕ). z ++ spelled (get_or xs i 0)) c.loop-b.invariant
     ∙ sym (ap spelled_all (take_more xs i 0 c.loop-b-test.true) ∙ spelled_more (take i xs) (get_or xs i 0))
 

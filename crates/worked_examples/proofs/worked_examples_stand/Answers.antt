@@ -7,9 +7,9 @@ returns c =
     record {
       two-blank-cards = λ n. refl;
       went-on-alone = λ n. refl;
-      was-left-behind = λ n. refl;
+      was-left_behind = λ n. refl;
       both-went-on = λ n. refl;
-      was-primary = λ n. refl;
+      was_primary = λ n. refl;
       strangers = λ n. refl;
       long-away = λ n. refl;
       block-9-alone = nine_alone;

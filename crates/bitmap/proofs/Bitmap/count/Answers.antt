@@ -19,11 +19,11 @@ returns c =
 pub loop-k-init : goal.loop-k-init
 loop-k-init c = counts_none (bit c.args.self.now.bytes)
 
-pub overflow-cast-total : goal.overflow-cast-total
-overflow-cast-total c = let self = c.args.self.now in let h = ones-le 8 (get_or self.bytes c.loop-k.k 0) (self.octets c.loop-k.k) in omega arith
+pub overflow_cast-total : goal.overflow_cast-total
+overflow_cast-total c = let self = c.args.self.now in let h = ones-le 8 (get_or self.bytes c.loop-k.k 0) (self.octets c.loop-k.k) in omega arith
 
-pub overflow-add-total : goal.overflow-add-total
-overflow-add-total c =
+pub overflow_add-total : goal.overflow_add-total
+overflow_add-total c =
     let self = c.args.self.now in
     let h = ones-le 8 (get_or self.bytes c.loop-k.k 0) (self.octets c.loop-k.k) in
     let t = counted_le (c.loop-k.k * 8) (bit self.bytes) in

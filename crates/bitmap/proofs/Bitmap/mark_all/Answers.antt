@@ -21,6 +21,6 @@ returns c =
 pub loop-k-init : goal.loop-k-init
 loop-k-init c = changed_none 0 _ c.args.self.now.bytes
 
-pub invariant-of-self : goal.invariant-of-self
-invariant-of-self c =
-    let self = c.loop-k.self in stays_whole 512 self.bytes c.loop-k.k c.below.result self.whole self.octets c.below.type-inv
+pub invariant_of-self : goal.invariant_of-self
+invariant_of-self c =
+    let self = c.loop-k.self in stays_whole 512 self.bytes c.loop-k.k c.below.result self.whole self.octets c.below.type_inv

@@ -32,8 +32,8 @@ returns-then-extent-ge-EXTENTS c =
 pub loop-k-init : goal.loop-k-init
 loop-k-init c = changed_none (c.args.extent * 8) _ c.args.self.now.bytes
 
-pub invariant-of-self : goal.invariant-of-self
-invariant-of-self c =
+pub invariant_of-self : goal.invariant_of-self
+invariant_of-self c =
     let self = c.loop-k.self in
     let k = c.loop-k.k in
-    stays_whole 512 self.bytes k _ self.whole self.octets (or_lt 8 _ _ (self.octets k) c.below.type-inv)
+    stays_whole 512 self.bytes k _ self.whole self.octets (or_lt 8 _ _ (self.octets k) c.below.type_inv)

@@ -5,5 +5,5 @@ use Rattle.bitmap.proofs.Bitmap.new.Goals as goal
 pub returns : goal.returns
 returns c = packed_none 512
 
-pub invariant-of-result : goal.invariant-of-result
-invariant-of-result c = (refl, (zeros_octets 512, tt))
+pub invariant_of-result : goal.invariant_of-result
+invariant_of-result c = (refl, (zeros_octets 512, tt))

@@ -14,7 +14,7 @@ pub returns-then-i-ge-BITS : goal.returns-then-i-ge-BITS
 returns-then-i-ge-BITS c =
     let self = c.args.self.now in sets_none 512 self.bytes c.args.i self.whole self.octets c.if-i-ge-BITS.true
 
-pub invariant-of-self : goal.invariant-of-self
-invariant-of-self c =
+pub invariant_of-self : goal.invariant_of-self
+invariant_of-self c =
     let self = c.args.self.now in
-    stays_whole 512 self.bytes (c.args.i / 8) _ self.whole self.octets (or_lt 8 _ _ (self.octets (c.args.i / 8)) c.mask.type-inv)
+    stays_whole 512 self.bytes (c.args.i / 8) _ self.whole self.octets (or_lt 8 _ _ (self.octets (c.args.i / 8)) c.mask.type_inv)

@@ -5,8 +5,8 @@ use Rattle.card.proofs.row.put_row.Goals as goal
 pub loop-i-preserved : goal.loop-i-preserved
 loop-i-preserved c =
     let l = c.fill.ensures.len in
-    c.put-at.ensures.after
-    ∙ partly_more (length c.fill.new.self) c.args.numbers.now c.loop-i.block c.loop-i.i _ c.loop-i-test.true (omega arith) refl (c.type-inv.numbers c.loop-i.i).fits c.loop-i.invariant
+    c.put_at.ensures.after
+    ∙ partly_more (length c.fill.new.self) c.args.numbers.now c.loop-i.block c.loop-i.i _ c.loop-i-test.true (omega arith) refl (c.type_inv.numbers c.loop-i.i).fits c.loop-i.invariant
 
 pub loop-i-init : goal.loop-i-init
 loop-i-init c =

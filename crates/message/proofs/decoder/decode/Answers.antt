@@ -3,9 +3,9 @@ use Rattle.message.specs.Frames.{shape_of, decode_answer}
 use Rattle.message.proofs.Decoding.{letter_none, by_letter}
 use Rattle.message.proofs.decoder.decode.Goals as goal
 
-pub returns-then-is-empty : goal.returns-then-is-empty
+pub returns-then-is_empty : goal.returns-then-is_empty
 unfolding shape_of
-returns-then-is-empty c = by_letter c.args.blocks c.args.frame.now 0 (letter_none c.args.frame.now (eqb-true _ _ (sym c.is-empty.ensures ∙ c.if-is-empty.true)))
+returns-then-is_empty c = by_letter c.args.blocks c.args.frame.now 0 (letter_none c.args.frame.now (eqb-true _ _ (sym c.is_empty.ensures ∙ c.if-is_empty.true)))
 
 pub returns-in-R : goal.returns-in-R
 unfolding shape_of
@@ -47,6 +47,6 @@ pub returns-in-W : goal.returns-in-W
 unfolding shape_of
 returns-in-W c = c.alone-in-W.ensures 87 refl ∙ by_letter c.args.blocks c.args.frame.now 87 c.in-W.is
 
-pub returns-in-default : goal.returns-in-default
+pub returns-in_default : goal.returns-in_default
 unfolding shape_of decode_answer
-returns-in-default c = search rules
+returns-in_default c = search rules

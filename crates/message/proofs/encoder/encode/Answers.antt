@@ -9,45 +9,45 @@ pub returns-in-Report : goal.returns-in-Report
 unfolding shape_of
 returns-in-Report c =
     let m = c.in-Report in
-    let e = report_said m.current m.bitmap m.recent m.older m.consistent m.primary m.role m.marked m.word c.role-number.result c.role-number.ensures in
+    let e = report_said m.current m.bitmap m.recent m.older m.consistent m.primary m.role m.marked m.word c.role_number.result c.role_number.ensures in
     let r = encoded c.args.blocks c.args.message.now _ (plain (report_limits c.args.blocks) 0) _ c.args.out.now _ _ (ap said_by m.is ∙ e) refl
-    (ap (λ (l : List Limit). Some (plain l 0)) c.report-limits.ensures) c.write.ensures.answer c.write.ensures.after in
+    (ap (λ (l : List Limit). Some (plain l 0)) c.report_limits.ensures) c.write.ensures.answer c.write.ensures.after in
     record { answer = r.answer_is; after = r.after_is }
 
 pub returns-in-Start : goal.returns-in-Start
 unfolding shape_of
 returns-in-Start c =
-    let r = encoded c.args.blocks c.args.message.now _ (plain start_limits 0) _ c.args.out.now _ _ (ap said_by c.in-Start.is) refl (ap (λ (l : List Limit). Some (plain l 0)) c.start-limits.ensures) c.write-in-Start.ensures.answer c.write-in-Start.ensures.after in
+    let r = encoded c.args.blocks c.args.message.now _ (plain start_limits 0) _ c.args.out.now _ _ (ap said_by c.in-Start.is) refl (ap (λ (l : List Limit). Some (plain l 0)) c.start_limits.ensures) c.write-in-Start.ensures.answer c.write-in-Start.ensures.after in
     record { answer = r.answer_is; after = r.after_is }
 
 pub returns-in-Bits : goal.returns-in-Bits
 unfolding shape_of
 returns-in-Bits c =
-    let r = encoded c.args.blocks c.args.message.now _ (bits_shape c.args.blocks) _ c.args.out.now _ _ (ap said_by c.in-Bits.is) refl refl c.write-bits.ensures.answer c.write-bits.ensures.after in
+    let r = encoded c.args.blocks c.args.message.now _ (bits_shape c.args.blocks) _ c.args.out.now _ _ (ap said_by c.in-Bits.is) refl refl c.write_bits.ensures.answer c.write_bits.ensures.after in
     record { answer = r.answer_is; after = r.after_is }
 
 pub returns-in-Data : goal.returns-in-Data
 unfolding shape_of
 returns-in-Data c =
-    let r = encoded c.args.blocks c.args.message.now _ (plain (data_limits c.args.blocks) 512) _ c.args.out.now _ _ (ap said_by c.in-Data.is) refl (ap (λ (l : List Limit). Some (plain l 512)) c.data-limits.ensures) c.write-in-Data.ensures.answer c.write-in-Data.ensures.after in
+    let r = encoded c.args.blocks c.args.message.now _ (plain (data_limits c.args.blocks) 512) _ c.args.out.now _ _ (ap said_by c.in-Data.is) refl (ap (λ (l : List Limit). Some (plain l 512)) c.data_limits.ensures) c.write-in-Data.ensures.answer c.write-in-Data.ensures.after in
     record { answer = r.answer_is; after = r.after_is }
 
 pub returns-in-Copy : goal.returns-in-Copy
 unfolding shape_of
 returns-in-Copy c =
-    let r = encoded c.args.blocks c.args.message.now _ (plain (block_limits c.args.blocks) 512) _ c.args.out.now _ _ (ap said_by c.in-Copy.is) refl (ap (λ (l : List Limit). Some (plain l 512)) c.block-limits.ensures) c.write-in-Copy.ensures.answer c.write-in-Copy.ensures.after in
+    let r = encoded c.args.blocks c.args.message.now _ (plain (block_limits c.args.blocks) 512) _ c.args.out.now _ _ (ap said_by c.in-Copy.is) refl (ap (λ (l : List Limit). Some (plain l 512)) c.block_limits.ensures) c.write-in-Copy.ensures.answer c.write-in-Copy.ensures.after in
     record { answer = r.answer_is; after = r.after_is }
 
 pub returns-in-Written : goal.returns-in-Written
 unfolding shape_of
 returns-in-Written c =
-    let r = encoded c.args.blocks c.args.message.now _ (plain written_limits 0) _ c.args.out.now _ _ (ap said_by c.in-Written.is) refl (ap (λ (l : List Limit). Some (plain l 0)) c.written-limits.ensures) c.write-in-Written.ensures.answer c.write-in-Written.ensures.after in
+    let r = encoded c.args.blocks c.args.message.now _ (plain written_limits 0) _ c.args.out.now _ _ (ap said_by c.in-Written.is) refl (ap (λ (l : List Limit). Some (plain l 0)) c.written_limits.ensures) c.write-in-Written.ensures.answer c.write-in-Written.ensures.after in
     record { answer = r.answer_is; after = r.after_is }
 
 pub returns-in-Landed : goal.returns-in-Landed
 unfolding shape_of
 returns-in-Landed c =
-    let r = encoded c.args.blocks c.args.message.now _ (plain (block_limits c.args.blocks) 0) _ c.args.out.now _ _ (ap said_by c.in-Landed.is) refl (ap (λ (l : List Limit). Some (plain l 0)) c.block-limits-in-Landed.ensures) c.write-in-Landed.ensures.answer c.write-in-Landed.ensures.after in
+    let r = encoded c.args.blocks c.args.message.now _ (plain (block_limits c.args.blocks) 0) _ c.args.out.now _ _ (ap said_by c.in-Landed.is) refl (ap (λ (l : List Limit). Some (plain l 0)) c.block_limits-in-Landed.ensures) c.write-in-Landed.ensures.answer c.write-in-Landed.ensures.after in
     record { answer = r.answer_is; after = r.after_is }
 
 pub returns-in-Adopted : goal.returns-in-Adopted

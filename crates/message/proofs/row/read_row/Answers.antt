@@ -16,8 +16,8 @@ pub returns-in-Err : goal.returns-in-Err
 returns-in-Err g c =
     sofar_fault c.args.limits c.args.frame.now _ c.loop-i.i c.loop-i.at c.in-Err.fault (omega arith) c.loop-i.invariant.0 c.in-Err.ensures
 
-pub overflow-add-at : goal.overflow-add-at
-overflow-add-at g c =
+pub overflow_add-at : goal.overflow_add-at
+overflow_add-at g c =
     let h = (read_at_number c.args.frame.now c.loop-i.at 12 (limit_at c.args.limits c.loop-i.i).most c.in-Ok.number (sym c.in-Ok.ensures)).reached in omega arith
 
 pub loop-i-preserved : goal.loop-i-preserved

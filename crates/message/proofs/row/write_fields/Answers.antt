@@ -9,7 +9,7 @@ pub loop-i-preserved : goal.loop-i-preserved
 loop-i-preserved g c =
     let a = c.loop-i.invariant.1 in
     let l : length (set c.args.out.now 0 c.args.letter) ≡ length c.args.out.now = length-set c.args.out.now 0 c.args.letter in (
-      c.put-at.ensures.after
+      c.put_at.ensures.after
           ∙ put_more (set c.args.out.now 0 c.args.letter) c.loop-i.out c.args.numbers c.loop-i.at c.loop-i.i c.loop-i.invariant.0 a (omega arith) (omega arith)
           (c.requires.1.1 c.loop-i.i (omega arith)),
       omega arith,

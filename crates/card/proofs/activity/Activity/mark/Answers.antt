@@ -15,7 +15,7 @@ loop-slot-preserved c =
     elim c.if-number-ne0.branch [
       | then-number-ne0 w ↦
           c.loop-slot.invariant ∙ marked_extent c.args.blocks slots c.loop-slot.map.bytes c.loop-slot.slot (omega arith) w.if-number-ne0.true
-          ∙ ap next (sym (ap (λ (z : Bitmap). z.bytes) w.map-is ∙ w.mark-extent.ensures))
+          ∙ ap next (sym (ap (λ (z : Bitmap). z.bytes) w.map-is ∙ w.mark_extent.ensures))
       | else-number-ne0 w ↦
           c.loop-slot.invariant ∙ marked_empty c.args.blocks slots c.loop-slot.map.bytes c.loop-slot.slot (omega arith) w.if-number-ne0.false
           ∙ ap next (sym (ap (λ (z : Bitmap). z.bytes) w.map-is))

@@ -5,8 +5,8 @@ use Rattle.link.specs.Soundness.{ways_within}
 use Rattle.link.proofs.Hops.{passing, layered_count}
 use Rattle.link.proofs.hop.HopLink.count.Goals as goal
 
-pub overflow-add-result : goal.overflow-add-result
-overflow-add-result g c =
+pub overflow_add-result : goal.overflow_add-result
+overflow_add-result g c =
     let s = c.args.self.now in
     let sound = (g.L.Link.means s.lower).sound in
     omega (arith, c.count-below.ensures, c.count.ensures, sound.within c.args.way, sound.most, ways_within s.ahead s.back s.rings 4 s.four s.four_back c.args.way)
