@@ -23,4 +23,7 @@ loop-k-init c = changed_none 0 _ c.args.self.now.bytes
 
 pub invariant_of-self : goal.invariant_of-self
 invariant_of-self c =
-    let self = c.loop-k.self in stays_whole 512 self.bytes c.loop-k.k c.below.result self.whole self.octets c.below.type_inv
+    let self = c.loop-k.self in let h =
+    stays_whole 512 self.bytes c.loop-k.k c.below.result self.whole self.octets c.below.type_inv
+    in
+    record { whole = h.0; octets = h.1 }

@@ -36,4 +36,7 @@ pub invariant_of-self : goal.invariant_of-self
 invariant_of-self c =
     let self = c.loop-k.self in
     let k = c.loop-k.k in
+    let h =
     stays_whole 512 self.bytes k _ self.whole self.octets (or_lt 8 _ _ (self.octets k) c.below.type_inv)
+    in
+    record { whole = h.0; octets = h.1 }

@@ -6,4 +6,4 @@ pub returns : goal.returns
 returns c = packed_none 512
 
 pub invariant_of-result : goal.invariant_of-result
-invariant_of-result c = (refl, (zeros_octets 512, tt))
+invariant_of-result c = record { whole = refl; octets = zeros_octets 512 }

@@ -17,4 +17,7 @@ returns-then-i-ge-BITS c =
 pub invariant_of-self : goal.invariant_of-self
 invariant_of-self c =
     let self = c.args.self.now in
+    let h =
     stays_whole 512 self.bytes (c.args.i / 8) _ self.whole self.octets (or_lt 8 _ _ (self.octets (c.args.i / 8)) c.mask.type_inv)
+    in
+    record { whole = h.0; octets = h.1 }
