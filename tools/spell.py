@@ -13,6 +13,13 @@ import re
 
 FIELDS = {"isOpen", "clearBefore", "wasPrimary"}
 
+# fields of records in specs/ with a dash between plain words, and the crates that name them
+DASHED = """
+source-consistent target-secondary not-current not-bitmap not-recent not-older one-generation mine-unseen peer-unseen
+two-blank-cards went-on-alone was-left-behind both-went-on was-primary long-away block-9-alone block-63-in-extent-0 block-64-in-extent-1
+""".split()
+DASHED_IN = ("compare", "worked_examples")
+
 NAMES = dict(line.split() for line in """
 a-stray a_stray
 afterIdentifier after_identifier
@@ -473,8 +480,13 @@ zeros-octets zeros_octets
 WORD = re.compile(r"(?<![\w'\u00b7-])(\.?)([A-Za-z_][\w'-]*)")
 
 
+dashed_here = []
+
+
 def turned(match):
     dot, name = match.groups()
+    if name in dashed_here:
+        return dot + name.replace("-", "_")
     if dot and name not in FIELDS:
         # a definition by its module's path, as `Fields.readAnswer` or `generation.readAnswer`
         if name in NAMES and "-" not in name:
@@ -497,6 +509,7 @@ def main():
             if not name.endswith((".antt", ".rt")):
                 continue
             path = os.path.join(folder, name)
+            dashed_here[:] = DASHED if path.split(os.sep)[1] in DASHED_IN else []
             with open(path, encoding="utf-8") as f:
                 old = f.read()
             lines = []

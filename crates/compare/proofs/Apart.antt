@@ -13,14 +13,14 @@ use Rattle.compare.specs.Laws.{BothWentOn}
 
 decided_by_bitmap : (m p : Side) → BothWentOn m p → deciding_rule m p ≡ SameBitmap
 decided_by_bitmap m p h =
-    let mine-begun : blank m ≡ false = ne_eqb _ _ h.mine-unseen.begun in
-    let peer-begun : blank p ≡ false = ne_eqb _ _ h.peer-unseen.begun in
-    let current : same_current m p ≡ false = ne_eqb _ _ h.mine-unseen.not-current in
-    let mine-tracks : tracks m p ≡ false = ne_eqb _ _ h.peer-unseen.not-bitmap in
-    let peer-tracks : tracks p m ≡ false = ne_eqb _ _ h.mine-unseen.not-bitmap in
-    let mine-remembers : remembers m p ≡ false = grind (arith, nat_tests, h.peer-unseen.not-recent, h.peer-unseen.not-older) in
-    let peer-remembers : remembers p m ≡ false = grind (arith, nat_tests, h.mine-unseen.not-recent, h.mine-unseen.not-older) in
-    let bitmap : same_bitmap m p ≡ true = grind (arith, nat_tests, h.one-generation, h.not_none) in
+    let mine-begun : blank m ≡ false = ne_eqb _ _ h.mine_unseen.begun in
+    let peer-begun : blank p ≡ false = ne_eqb _ _ h.peer_unseen.begun in
+    let current : same_current m p ≡ false = ne_eqb _ _ h.mine_unseen.not_current in
+    let mine-tracks : tracks m p ≡ false = ne_eqb _ _ h.peer_unseen.not_bitmap in
+    let peer-tracks : tracks p m ≡ false = ne_eqb _ _ h.mine_unseen.not_bitmap in
+    let mine-remembers : remembers m p ≡ false = grind (arith, nat_tests, h.peer_unseen.not_recent, h.peer_unseen.not_older) in
+    let peer-remembers : remembers p m ≡ false = grind (arith, nat_tests, h.mine_unseen.not_recent, h.mine_unseen.not_older) in
+    let bitmap : same_bitmap m p ≡ true = grind (arith, nat_tests, h.one_generation, h.not_none) in
     rw (mine-begun, peer-begun, current, mine-tracks, peer-tracks, mine-remembers, peer-remembers, bitmap) refl
 
 pub went_on_apart : (m p : Side) (asking : Node) → BothWentOn m p → comparison m p asking NoOne ≡ Err Split

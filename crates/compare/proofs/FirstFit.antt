@@ -9,7 +9,7 @@ pub fits_here : (rs : List Rule) (i : ℕ) (d : Rule) (m p : Side) → i < lengt
 fits_here rs i d m p within fits = rw (drop-cons rs i d, fits) refl
 
 pub fits_later : (rs : List Rule) (i : ℕ) (d : Rule) (m p : Side) → i < length rs → rule_fits (get_or rs i d) m p ≡ false → first_that_fits (drop i rs) m p ≡ first_that_fits (drop (i + 1) rs) m p
-fits_later rs i d m p within Fits-not = rw (add-one, drop-cons rs i d, Fits-not) refl
+fits_later rs i d m p within not_fits = rw (add-one, drop-cons rs i d, not_fits) refl
 
 pub fits_none : (rs : List Rule) (i : ℕ) (m p : Side) → length rs ≤ i → first_that_fits (drop i rs) m p ≡ NothingShared
 fits_none rs i m p past = rw (drop_of_length-le rs past) refl

@@ -57,14 +57,14 @@ finds_known NothingShared m p = (omega arith, omega arith)
 barred_by_cases : (P : Finding → Type 0) (s t : Side) (f : Finding) → (Harmless s t → P f) → P (Split Full) → P (Refused NoSource) → P (unless_barred s t f)
 barred_by_cases P s t f free primary inconsistent = go s.consistent t.role refl refl where
   go : (c : Bool) (r : Role) → s.consistent ≡ c → t.role ≡ r → P (cond c (cond (is_primary r) (Split Full) f) (Refused NoSource))
-  go true Secondary c r = free (record { source-consistent = c; target-secondary = r })
+  go true Secondary c r = free (record { source_consistent = c; target_secondary = r })
   go true Primary c r = primary
   go false r c e = inconsistent
 
 taker_by_cases : (P : Finding → Type 0) (t s : Side) (f g : Finding) → (Harmless s t → P f) → P g → P (cond (can_take t s) f g)
 taker_by_cases P t s f g takes stays = go s.consistent t.role refl refl where
   go : (c : Bool) (r : Role) → s.consistent ≡ c → t.role ≡ r → P (cond (not (is_primary r) && c) f g)
-  go true Secondary c r = takes (record { source-consistent = c; target-secondary = r })
+  go true Secondary c r = takes (record { source_consistent = c; target_secondary = r })
   go false Secondary c r = stays
   go c Primary d r = stays
 

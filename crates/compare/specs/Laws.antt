@@ -18,8 +18,8 @@ from_there (Err r) = Err r
 
 -- a copy that harms nothing: good blocks come, and no user is at work on those written over
 pub record Harmless (source target : Side) : Type 0 where
-  pub source-consistent : source.consistent ≡ true
-  pub target-secondary : target.role ≡ Secondary
+  pub source_consistent : source.consistent ≡ true
+  pub target_secondary : target.role ≡ Secondary
 
 -- an answer is -2 to 2 or one of the refusals 24 to 27, and a copy is harmless
 abbrev pub Sound : Side → Side → Result ℤ Refusal → Type 0
@@ -31,14 +31,14 @@ Sound m p (Err r) = (23 < number_of r) × (number_of r < 28)
 -- node a has a generation of its own, which b has never seen
 pub record Unseen (a b : Side) : Type 0 where
   pub begun : a.current ≢ 0
-  pub not-current : a.current ≢ b.current
-  pub not-bitmap : a.current ≢ b.bitmap
-  pub not-recent : a.current ≢ b.recent
-  pub not-older : a.current ≢ b.older
+  pub not_current : a.current ≢ b.current
+  pub not_bitmap : a.current ≢ b.bitmap
+  pub not_recent : a.current ≢ b.recent
+  pub not_older : a.current ≢ b.older
 
 -- both nodes went on from one generation, each without the other
 pub record BothWentOn (m p : Side) : Type 0 where
-  pub one-generation : m.bitmap ≡ p.bitmap
+  pub one_generation : m.bitmap ≡ p.bitmap
   pub not_none : m.bitmap ≢ 0
-  pub mine-unseen : Unseen m p
-  pub peer-unseen : Unseen p m
+  pub mine_unseen : Unseen m p
+  pub peer_unseen : Unseen p m

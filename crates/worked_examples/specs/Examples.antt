@@ -16,13 +16,13 @@ abbrev pub node : ℕ → ℕ → Side
 node c b = resting c b 0 0 false
 
 pub record WorkedExamples : Type 0 where
-  pub two-blank-cards : (n : Node) → comparison (node 0 0) (node 0 0) n NoOne ≡ Err Blank
-  pub went-on-alone : (n : Node) → comparison (node 4 2) (node 2 0) n NoOne ≡ Ok (pos 1)
-  pub was-left-behind : (n : Node) → comparison (node 2 0) (node 4 2) n NoOne ≡ Ok (negsuc 0)
-  pub both-went-on : (n : Node) → comparison (node 4 2) (node 3 2) n NoOne ≡ Err Split
-  pub was-primary : (n : Node) → comparison (resting 2 0 0 0 true) (node 2 0) n NoOne ≡ Ok (pos 1)
+  pub two_blank_cards : (n : Node) → comparison (node 0 0) (node 0 0) n NoOne ≡ Err Blank
+  pub went_on_alone : (n : Node) → comparison (node 4 2) (node 2 0) n NoOne ≡ Ok (pos 1)
+  pub was_left_behind : (n : Node) → comparison (node 2 0) (node 4 2) n NoOne ≡ Ok (negsuc 0)
+  pub both_went_on : (n : Node) → comparison (node 4 2) (node 3 2) n NoOne ≡ Err Split
+  pub was_primary : (n : Node) → comparison (resting 2 0 0 0 true) (node 2 0) n NoOne ≡ Ok (pos 1)
   pub strangers : (n : Node) → comparison (node 2 0) (node 3 0) n NoOne ≡ Err Unrelated
-  pub long-away : (n : Node) → comparison (resting 8 6 4 2 false) (node 2 0) n NoOne ≡ Ok (pos 2)
-  pub block-9-alone : slice_index_or (with empty 9) 1 0 ≡ 2
-  pub block-63-in-extent-0 : (bit (with_extent empty 0 4096) 63 ≡ true) × (bit (with_extent empty 1 4096) 63 ≡ false)
-  pub block-64-in-extent-1 : (bit (with_extent empty 1 4096) 64 ≡ true) × (bit (with_extent empty 0 4096) 64 ≡ false)
+  pub long_away : (n : Node) → comparison (resting 8 6 4 2 false) (node 2 0) n NoOne ≡ Ok (pos 2)
+  pub block_9_alone : slice_index_or (with empty 9) 1 0 ≡ 2
+  pub block_63_in_extent_0 : (bit (with_extent empty 0 4096) 63 ≡ true) × (bit (with_extent empty 1 4096) 63 ≡ false)
+  pub block_64_in_extent_1 : (bit (with_extent empty 1 4096) 64 ≡ true) × (bit (with_extent empty 0 4096) 64 ≡ false)
