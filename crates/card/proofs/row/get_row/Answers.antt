@@ -12,8 +12,8 @@ returns-then-block-ne-BLOCK c = let e = c.min.ensures in let h = answer_other c.
 pub slice_bounds-get_field-end : goal.slice_bounds-get_field-end
 slice_bounds-get_field-end c = let h = c.loop-i.invariant.0 in let t = c.loop-i-test.true in omega arith
 
-pub shape-of-numbers-in_err-numbers : goal.shape-of-numbers-in_err-numbers
-shape-of-numbers-in_err-numbers c = sym c.loop-i.invariant.0 ∙ c.requires.0
+pub shape_of-numbers-in_err-numbers : goal.shape_of-numbers-in_err-numbers
+shape_of-numbers-in_err-numbers c = sym c.loop-i.invariant.0 ∙ c.requires.0
 
 pub returns-in_err-numbers : goal.returns-in_err-numbers
 returns-in_err-numbers c =
@@ -40,8 +40,8 @@ loop-i-preserved c =
           (rw k at (sym c.in_ok-numbers.ensures)),
     )
 
-pub shape-of-numbers : goal.shape-of-numbers
-shape-of-numbers c = sym c.loop-i.invariant.0 ∙ c.requires.0
+pub shape_of-numbers : goal.shape_of-numbers
+shape_of-numbers c = sym c.loop-i.invariant.0 ∙ c.requires.0
 
 pub returns : goal.returns
 returns c =
