@@ -13,7 +13,7 @@ pub slice_bounds-get_field-end : goal.slice_bounds-get_field-end
 slice_bounds-get_field-end c = let h = c.loop-i.invariant.0 in let t = c.loop-i-test.true in omega arith
 
 pub shape_of-numbers-in_err-numbers : goal.shape_of-numbers-in_err-numbers
-shape_of-numbers-in_err-numbers c = sym c.loop-i.invariant.0 ∙ c.requires.0
+shape_of-numbers-in_err-numbers c = sym c.loop-i.invariant.0 ∙ c.requires.limits_len
 
 pub returns-in_err-numbers : goal.returns-in_err-numbers
 returns-in_err-numbers c =
@@ -41,7 +41,7 @@ loop-i-preserved c =
     )
 
 pub shape_of-numbers : goal.shape_of-numbers
-shape_of-numbers c = sym c.loop-i.invariant.0 ∙ c.requires.0
+shape_of-numbers c = sym c.loop-i.invariant.0 ∙ c.requires.limits_len
 
 pub returns : goal.returns
 returns c =
