@@ -1,4 +1,6 @@
 // The quick-sync bitmap in memory: data block i is bit i mod 8, lowest first, of byte i div 8.
+#![tactic(auto)]
+
 ghost use Rattle.std.specs.Prelude.{◌≡◌, ℕ, ◌<◌, length, slice_index};
 
 mod work;

@@ -1,4 +1,6 @@
 // What a card's three metadata blocks hold: the generation record, the activity record and the quick-sync bitmap.
+#![tactic(auto)]
+
 pub mod activity;
 pub mod fault;
 pub mod generation;

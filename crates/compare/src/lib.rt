@@ -1,4 +1,6 @@
 // Who copies to whom when two nodes meet.
+#![tactic(auto)]
+
 ghost use Rattle.std.specs.Prelude.{◌≡◌, Err};
 ghost use Rattle.refusal.specs.declared.Refusal.TheVariants.{Split};
 ghost use Rattle.compare.specs.declared.Word.TheVariants.{NoOne};

@@ -1,3 +1,5 @@
+#![tactic(auto)]
+
 // Every rule, with the four words and from both ends; the answers are worked out by hand.
 #[cfg(test)]
 mod tests {

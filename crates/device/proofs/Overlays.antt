@@ -1,5 +1,5 @@
 -- Changed blocks over those of a factory image.
-use Rattle.std.proofs.Common.{◌≡◌, ℕ, zero, suc, ◌+◌, ◌*◌, ◌/◌, ◌<◌, ◌≤◌, min, true, false, List, [], ◌∷◌, length, get_or, take, drop, set, sym, refl, ap, ◌∙◌, add-zero, arith, get_or-drop, get_or-take, drop-drop, eq-eqb, ne_eqb}
+use Rattle.std.proofs.Common.{◌≡◌, ℕ, zero, suc, ◌+◌, ◌*◌, ◌/◌, ◌<◌, min, List, [], ◌∷◌, length, get_or, take, drop, set, sym, refl, ap, ◌∙◌, add-zero, arith, get_or-drop, get_or-take, drop-drop, eq-eqb, ne_eqb}
 use Rattle.std.proofs.lemmas.List.{drop-take}
 use Rattle.device.specs.Makes.{parts, chosen, overlaid, imaged}
 use Rattle.device.proofs.Areas.{length-parts, get_or-parts}

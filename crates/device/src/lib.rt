@@ -1,5 +1,7 @@
 // A block device, by what it means: a list of blocks and a supply of block writes.
 // A supply of 1,000,001 is mains, which never falls; any other falls by one with each block write, and at 0 the device writes no more.
+#![tactic(auto)]
+
 mod checks;
 pub mod flat;
 pub mod image;

@@ -1,3 +1,5 @@
+#![tactic(auto)]
+
 // Tests of the makes of device, over one table of cases.
 #[cfg(test)]
 mod tests {

@@ -1,4 +1,6 @@
 // Decimal numbers in a fixed number of columns: right-justified, spaces before, no leading zeros, nought as one 0.
+#![tactic(auto)]
+
 ghost use Rattle.std.specs.Prelude.{◌≡◌, ◌+◌, length, replicate, Decides, nat_le};
 ghost use Rattle.field.specs.Fields.{fits, put_answer, put_into, fits_at, put_at, read_answer, read_at, RoundTrip};
 

@@ -1,4 +1,6 @@
 // Links: two ways of frames between node 0 and node 1. The trait says what every link does; `slot` and `hop` are its makes.
+#![tactic(auto)]
+
 pub mod frame;
 pub mod hop;
 mod rings;

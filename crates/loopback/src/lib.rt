@@ -1,4 +1,6 @@
 // A self-test that goes for every link: two frames go out one way, and come back once each, in order.
+#![tactic(auto)]
+
 ghost use Rattle.std.specs.Prelude.{◌≡◌, true, Some};
 ghost use Rattle.link.specs.Makes.{framed};
 ghost use Rattle.loopback.specs.Loopback.{test_answer, tested};

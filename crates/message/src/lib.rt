@@ -1,4 +1,6 @@
 // What the two nodes say to each other: a frame is a letter, its fields of twelve columns each, and its bytes.
+#![tactic(auto)]
+
 ghost use Rattle.std.specs.Prelude.{◌≡◌};
 ghost use Rattle.message.specs.Messages.{refusal_of};
 

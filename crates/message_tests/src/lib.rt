@@ -1,3 +1,5 @@
+#![tactic(auto)]
+
 // Frames, read and written again.
 #[cfg(test)]
 mod tests {

@@ -1,12 +1,12 @@
 -- A ring against the list that waits in it.
-use Rattle.std.proofs.Common.{◌≡◌, ℕ, zero, suc, ◌+◌, ◌-◌, ◌<◌, ◌≤◌, min, true, ◌⊎◌, List, [], ◌∷◌, ◌++◌, length, get_or, take, drop, set, Some, sym, refl, ap, ◌∙◌, ⊎_elim, append_assoc, add-zero, arith}
+use Rattle.std.proofs.Common.{◌≡◌, ℕ, zero, suc, ◌+◌, ◌-◌, ◌<◌, ◌≤◌, min, true, List, [], ◌∷◌, ◌++◌, length, get_or, take, drop, set, Some, sym, refl, ap, ◌∙◌, ⊎_elim, append_assoc, add-zero, arith}
 use Rattle.std.proofs.lemmas.Bool.Decides.{nat_tests}
 use Rattle.std.proofs.lemmas.Bool.{cases_lt, lt-ltb, cond-true}
 use Rattle.std.proofs.lemmas.List.{length-append, length-take, length-drop, length-set, drop_all, take_all, set-append_left, set-append_right, drop-set-add, drop-set-lt, take-set-le, take_more_set, take_more, drop_more, take-append-le, get_or_append_left, get_or-append_right, get_or-drop, get_or-take, append-nil}
 use Rattle.std.proofs.lemmas.Option.{slice_get_read}
 use Rattle.std.specs.List.{slice_get}
 use Rattle.queue.specs.declared.Ring.{Ring}
-use Rattle.queue.specs.Queue.{round, contents, vacant, has_room, with_one, oldest, place_of}
+use Rattle.queue.specs.Queue.{round, contents, vacant, has_room, with_one, place_of}
 
 pub round-length : {X : Type 0} (xs : List X) (f : ℕ) → length (round xs f) ≡ length xs
 round-length xs f = simp (length-append, length-drop, length-take) (omega arith)

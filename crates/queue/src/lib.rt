@@ -1,5 +1,7 @@
 // A bounded queue as a ring over borrowed slots. What waits is a list, the oldest first; an element that stays is never moved.
 // What a place out of use holds is told by no answer.
+#![tactic(auto)]
+
 ghost use Rattle.std.specs.Prelude.{◌≡◌, ◌<◌, ◌≤◌, length, nat_lt, slice_set};
 ghost use Rattle.std.specs.List.{slice_get};
 ghost use Rattle.queue.specs.Queue.{contents, vacant, has_room, with_one, oldest, younger, place_of};

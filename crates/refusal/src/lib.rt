@@ -1,4 +1,6 @@
 // The refusals: every way in which a call ends without having done what was asked of it.
+#![tactic(auto)]
+
 ghost use Rattle.std.specs.Prelude.{◌≡◌, Some};
 ghost use Rattle.refusal.specs.Refusals.{number_of, name_of, text_of};
 

@@ -1,4 +1,6 @@
 // Numbers and blocks as a person writes and reads them.
+#![tactic(auto)]
+
 ghost use Rattle.std.specs.Prelude.{◌≡◌, ◌%◌, ◌++◌, length, IfOk, string_bytes, OnOk, nat_le};
 ghost use Rattle.text.specs.Text.{number_of, trimmed_of, filled, hex_digit, plain, spelled, spelled_all, shown_of};
 

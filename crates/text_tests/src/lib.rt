@@ -1,3 +1,5 @@
+#![tactic(auto)]
+
 // Tests of the text that a person writes and reads.
 #[cfg(test)]
 mod tests {

@@ -1,5 +1,5 @@
 -- Where the bits of a few data blocks stand.
-use Rattle.std.proofs.Common.{◌≡◌, ℕ, ◌<◌, true, false, ◌||◌, eqb, get_or, ◌∙◌, arith}
+use Rattle.std.proofs.Common.{◌≡◌, true, false, ◌||◌, eqb, get_or, ◌∙◌, arith}
 use Rattle.bitmap.specs.Bits.{bit, empty, with, with_extent, digits_of}
 use Rattle.bitmap.proofs.Packing.{get_or-packed}
 use Rattle.bitmap.proofs.Laws.{bit-empty, bit-with_extent}

@@ -1,5 +1,4 @@
-use Rattle.std.proofs.Common.{◌≡◌, ℕ, ◌/◌, ◌%◌, ◌<◌, sym, ap, ◌∙◌, arith}
-use Rattle.std.proofs.lemmas.Bool.Decides.{nat_tests}
+use Rattle.std.proofs.Common.{◌≡◌, ◌/◌, ◌%◌, sym, ap, ◌∙◌, arith}
 use Rattle.text.specs.Text.{hex_digit}
 use Rattle.text.proofs.Prefixes.{spelled_out, hex_small}
 use Rattle.text.proofs.spell.Goals as goal
