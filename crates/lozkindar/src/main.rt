@@ -1,4 +1,6 @@
 // Lozkindar's program: follows a script of commands, one a line, from a file or from standard input.
+#![tactic(auto)]
+
 mod bench;
 mod card_tools;
 mod command;
