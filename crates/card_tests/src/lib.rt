@@ -1,4 +1,5 @@
 // Fields, bitmaps and cards on examples.
+#![tactic(auto)]
 
 #[cfg(test)]
 mod bitmaps;

@@ -1,3 +1,5 @@
+#![tactic(auto)]
+
 // The queue and the links on examples.
 #[cfg(test)]
 mod tests {
