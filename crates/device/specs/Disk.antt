@@ -1,6 +1,6 @@
 -- What a device means: its blocks, each a list of 512 bytes, and its supply, the block writes that its power still carries.
 use Rattle.std.specs.Prelude.{◌≡◌, ℕ, ◌-◌, ◌≤◌, cond, List, [], length, is_ok, Ok, Err, Result, ◌==◌, nat_le, nat_lt, slice_index_or, slice_set}
-use Rattle.std.specs.List.{AllByRecursion as All}
+use Rattle.std.specs.List.{AllByRecursion}
 use Rattle.device.specs.declared.DeviceFault.{DeviceFault}
 use Rattle.device.specs.declared.DeviceFault.TheVariants.{Range, Died, Measure}
 
@@ -13,7 +13,7 @@ Block b = length b ≡ 512
 
 -- a supply is 0 to 1,000,000 block writes, or 1,000,001: mains, which never falls
 pub record Sound (d : Disk) : Type 0 where
-  pub whole : All Block d.blocks
+  pub whole : AllByRecursion Block d.blocks
   pub power : d.supply ≤ 1000001
 
 -- a disk, with what holds of every disk

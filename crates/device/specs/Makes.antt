@@ -1,7 +1,7 @@
 -- What the two makes of device mean, with what holds of each.
 use Rattle.std.specs.Prelude.{◌≡◌, ℕ, zero, suc, ◌*◌, ◌/◌, ◌%◌, ◌≤◌, Bool, true, false, cond, ◌&&◌, List, [], ◌∷◌, length, take, drop, ◌==◌, nat_le, slice_index, refl}
 use Rattle.std.proofs.Common.{suc-mul, div-mul-le_self, arith, length-drop, length-take-le, leb-true}
-use Rattle.std.specs.List.{AllByRecursion as All}
+use Rattle.std.specs.List.{AllByRecursion}
 use Rattle.device.specs.Disk.{Disk, Block, Meaning}
 
 -- n parts of w bytes each, as they lie one after the other
@@ -38,19 +38,19 @@ imaged factory area supply =
     record { blocks = overlaid (parts 512 (length factory / 512) factory) (parts 513 (length area / 513) area); supply = supply }
 
 -- each part is whole, each block has 512 bytes, and no supply is above mains
-pub parts_whole : (w n : ℕ) (xs : List ℕ) → n * w ≤ length xs → All (λ p. length p ≡ w) (parts w n xs)
+pub parts_whole : (w n : ℕ) (xs : List ℕ) → n * w ≤ length xs → AllByRecursion (λ p. length p ≡ w) (parts w n xs)
 parts_whole w zero xs h = tt
 parts_whole w (suc n) xs h =
     (length-take-le w xs (omega (arith, suc-mul n w)), parts_whole w n (drop w xs) (simp length-drop (omega (arith, suc-mul n w))))
 
-pub parted : (w : ℕ) (xs : List ℕ) → All (λ p. length p ≡ w) (parts w (length xs / w) xs)
+pub parted : (w : ℕ) (xs : List ℕ) → AllByRecursion (λ p. length p ≡ w) (parts w (length xs / w) xs)
 parted w xs = parts_whole w (length xs / w) xs (div-mul-le_self (length xs) w)
 
 pub chosen_whole : (b c : List ℕ) → length b ≡ 512 → length c ≡ 513 → Block (chosen b c)
 chosen_whole b c h k =
     elim (slice_index c 0 == 0) as (λ t. length (cond t b (drop 1 c)) ≡ 512) [ true ↦ h | false ↦ simp length-drop (omega arith) ]
 
-pub overlaid_whole : (bs cs : List (List ℕ)) → All (λ b. length b ≡ 512) bs → All (λ c. length c ≡ 513) cs → All Block (overlaid bs cs)
+pub overlaid_whole : (bs cs : List (List ℕ)) → AllByRecursion (λ b. length b ≡ 512) bs → AllByRecursion (λ c. length c ≡ 513) cs → AllByRecursion Block (overlaid bs cs)
 overlaid_whole [] cs h k = tt
 overlaid_whole (b ∷ bs) [] h k = tt
 overlaid_whole (b ∷ bs) (c ∷ cs) h k = (chosen_whole b c h.0 k.0, overlaid_whole bs cs h.1 k.1)

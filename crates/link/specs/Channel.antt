@@ -1,6 +1,6 @@
 -- What a link means: open or closed, the frames that wait each way, the oldest first, and a capacity.
 use Rattle.std.specs.Prelude.{ℕ, ◌≤◌, Bool, cond, ◌&&◌, List, [], ◌∷◌, ◌++◌, length, is_ok, Ok, Err, Result, nat_le, nat_lt}
-use Rattle.std.specs.List.{AllByRecursion as All}
+use Rattle.std.specs.List.{AllByRecursion}
 use Rattle.queue.specs.Queue.{younger}
 use Rattle.link.specs.declared.LinkFault.{LinkFault}
 use Rattle.link.specs.declared.LinkFault.TheVariants.{Size, Closed, Full}
@@ -55,7 +55,7 @@ pub record Sound (c : Channel) : Type 0 where
   pub least : 4 ≤ c.capacity
   pub most : c.capacity ≤ 1000000
   pub within : (y : Way) → length (waiting c y) ≤ c.capacity
-  pub frames : (y : Way) → All IsFrame (waiting c y)
+  pub frames : (y : Way) → AllByRecursion IsFrame (waiting c y)
 
 pub record SoundChannel : Type 0 where
   pub channel : Channel

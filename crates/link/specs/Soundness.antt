@@ -4,7 +4,7 @@ use Rattle.std.proofs.Common.{sym, subst, ⊎_elim, arith}
 use Rattle.std.proofs.lemmas.Bool.{le-leb, lt-leb, cases_lt, cond-true, cond-false}
 use Rattle.std.proofs.lemmas.List.{length-map, length-take-le, length-append}
 use Rattle.std.proofs.ByRecursion.{All-map, All-append}
-use Rattle.std.specs.List.{AllByRecursion as All}
+use Rattle.std.specs.List.{AllByRecursion}
 use Rattle.queue.specs.declared.Ring.{Ring}
 use Rattle.queue.specs.Queue.{contents}
 use Rattle.queue.proofs.Rounds.{contents-within}
@@ -21,14 +21,14 @@ bytes_length f = length-take-le _ _ (omega (arith, f.within, f.whole))
 pub frame_sized : (f : Frame) → IsFrame (bytes_of f)
 frame_sized f = (omega (arith, bytes_length f, f.some), omega (arith, bytes_length f, f.within))
 
-pub frames_sized : (fs : List Frame) → All (λ f. IsFrame (bytes_of f)) fs
+pub frames_sized : (fs : List Frame) → AllByRecursion (λ f. IsFrame (bytes_of f)) fs
 frames_sized [] = tt
 frames_sized (f ∷ fs) = (frame_sized f, frames_sized fs)
 
-pub ring_sized : (slots : List Frame) (ring : Ring) → All IsFrame (frames_of slots ring)
+pub ring_sized : (slots : List Frame) (ring : Ring) → AllByRecursion IsFrame (frames_of slots ring)
 ring_sized slots ring = All-map IsFrame bytes_of _ (frames_sized (contents slots ring))
 
-pub ways_sized : (a b : List Frame) (r : Rings) (y : Way) → All IsFrame (queued (ways_of a b r) y)
+pub ways_sized : (a b : List Frame) (r : Rings) (y : Way) → AllByRecursion IsFrame (queued (ways_of a b r) y)
 ways_sized a b r ZeroToOne = ring_sized a r.ahead
 ways_sized a b r OneToZero = ring_sized b r.back
 
@@ -51,7 +51,7 @@ pub hop_high : (c : Channel) (q : Ways) → 999996 < c.capacity → hop_channel 
 unfolding hop_channel
 hop_high c q h = cond-false _ _ _ (lt-leb _ _ h)
 
-pub extended_sound : (c : Channel) (q : Ways) → Sound c → c.capacity ≤ 999996 → ((y : Way) → length (queued q y) ≤ 4) → ((y : Way) → All IsFrame (queued q y))
+pub extended_sound : (c : Channel) (q : Ways) → Sound c → c.capacity ≤ 999996 → ((y : Way) → length (queued q y) ≤ 4) → ((y : Way) → AllByRecursion IsFrame (queued q y))
     → Sound (extended c q)
 extended_sound c q s h k a =
     record {
@@ -61,7 +61,7 @@ extended_sound c q s h k a =
       frames = λ y. rw behind-queued (All-append IsFrame (waiting c y) (queued q y) (s.frames y) (a y));
     }
 
-pub hop_sound : (c : Channel) (q : Ways) → Sound c → ((y : Way) → length (queued q y) ≤ 4) → ((y : Way) → All IsFrame (queued q y)) → Sound (hop_channel c q)
+pub hop_sound : (c : Channel) (q : Ways) → Sound c → ((y : Way) → length (queued q y) ≤ 4) → ((y : Way) → AllByRecursion IsFrame (queued q y)) → Sound (hop_channel c q)
 hop_sound c q s k a =
     ⊎_elim
     (λ h. subst Sound (sym (hop_high c q h)) s)
