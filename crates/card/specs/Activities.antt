@@ -1,5 +1,5 @@
 -- The activity record, a card's block 1: sixteen slots, each 0 while it is empty, and else 1 plus its extent.
-use Rattle.std.specs.Prelude.{◌≡◌, ℕ, ◌+◌, ◌-◌, ◌/◌, min, true, cond, List, [], ◌∷◌, ◌++◌, replicate, Some, None, Ok, Err, Option, Result, ◌==◌, slice_index}
+use Rattle.std.specs.Prelude.{◌≡◌, ℕ, ◌+◌, ◌-◌, ◌/◌, min, true, cond, List, [], ◌∷◌, ◌++◌, replicate, Some, None, Ok, Err, Option, Result, ◌==◌, nat_lt, slice_index, slice_set}
 use Rattle.bitmap.specs.Bits.{with_extent}
 use Rattle.field.specs.declared.FieldFault.{FieldFault}
 use Rattle.card.specs.declared.activity.Activity.{Activity}
@@ -14,6 +14,10 @@ extents_of blocks = (blocks + 63) / 64
 -- the extent in a slot, where it holds one
 abbrev pub extent_in : List ℕ → ℕ → Option ℕ
 extent_in slots k = cond (slice_index slots k == 0) None (Some (slice_index slots k - 1))
+
+-- an extent, of the 64 that there are, in a slot
+unfoldable pub entered : List ℕ → ℕ → ℕ → List ℕ
+entered slots k extent = cond (nat_lt extent 64) (slice_set slots k (extent + 1)) slots
 
 -- every slot in use is 0 or 1 plus an extent that has data blocks, and all others are 0
 abbrev pub limits_at : ℕ → ℕ → List (ℕ × ℕ)

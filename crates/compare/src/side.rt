@@ -26,7 +26,7 @@ pub struct Side {
 }
 
 impl Role {
-    pub(crate) fn is_primary(self) -> bool
+    pub fn is_primary(self) -> bool
         ensures { result ≡ is_primary self }
     {
         match self {

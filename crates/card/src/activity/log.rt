@@ -2,7 +2,7 @@
 ghost use Rattle.std.specs.Prelude.{◌≡◌, ℕ, ◌+◌, ◌/◌, ◌<◌, ◌&&◌, ◌||◌, replicate, nat_lt};
 ghost use Rattle.bitmap.specs.Bits.{bit};
 ghost use Rattle.card.specs.Rows.{row_of, stands};
-ghost use Rattle.card.specs.Activities.{extent_in, extents_of, limits_at, numbers_of, read_answer, RoundTrip, marked};
+ghost use Rattle.card.specs.Activities.{extent_in, entered, extents_of, limits_at, numbers_of, read_answer, RoundTrip, marked};
 
 use crate::activity::Activity;
 use crate::fault::ActivityFault;
@@ -10,6 +10,9 @@ use crate::row::{get_row, put_row};
 use bitmap::Bitmap;
 
 const SLOTS: usize = 16;
+
+// A card has at most 4,096 data blocks, of 64 each.
+const EXTENTS: usize = 64;
 
 // How many extents of 64 data blocks there are; the last may have fewer.
 fn extents(blocks: u32) -> u32
@@ -50,6 +53,19 @@ impl Activity {
             return None;
         }
         Some(number - 1)
+    }
+
+    // Puts an extent, one of the 64 that there are, into a slot.
+    pub fn enter(&mut self, slot: usize, extent: usize)
+        ensures { self.new.slots ≡ entered self.old.slots slot extent }
+    {
+        if extent >= EXTENTS {
+            return;
+        }
+        if slot >= SLOTS {
+            return;
+        }
+        self.slots[slot] = extent as u32 + 1;
     }
 
     pub fn to_block(&self) -> [u8; 512]
