@@ -1,11 +1,13 @@
 -- The count of the set bits, byte by byte.
-use Rattle.std.proofs.Common.{◌≡◌, ℕ, zero, suc, ◌+◌, ◌*◌, ◌/◌, ◌%◌, ◌^◌, ◌<◌, ◌≤◌, Bool, true, false, cond, List, get_or, sym, refl, ap, ◌∙◌, add-zero, add-suc, pow-suc, arith}
+use Rattle.std.proofs.Common.{◌≡◌, ℕ, zero, suc, ◌+◌, ◌*◌, ◌/◌, ◌%◌, ◌^◌, ◌<◌, ◌≤◌, Bool, true, false, cond, List, get_or, sym, refl, ap, ◌∙◌, add-zero, add-suc, add-one, pow-suc, arith, length, take, sum_by}
+use Rattle.std.proofs.lemmas.List.{take_all, take_more}
+use Rattle.std.proofs.lemmas.List.Sums.{sum_by_push}
 use lib.Count.{ones, ones_step, ones-le}
 use Rattle.bitmap.specs.Bits.{digit, bit, counted}
 use Rattle.bitmap.proofs.Digits.{digit-first, digit_suc, rest_cond}
 use Rattle.bitmap.proofs.Packing.{Octets, bit_at}
 
-pub counts_none : (on : ℕ → Bool) → 0 ≡ counted 0 on
+counts_none : (on : ℕ → Bool) → 0 ≡ counted 0 on
 unfolding counted
 counts_none on = refl
 
@@ -46,9 +48,18 @@ ones_counted (suc w) x h =
     let f = counted-first w (digit x) in
     omega arith
 
-pub counts_byte : (xs : List ℕ) (k : ℕ) → Octets xs → counted ((k + 1) * 8) (bit xs) ≡ counted (k * 8) (bit xs) + ones (get_or xs k 0)
+counts_byte : (xs : List ℕ) (k : ℕ) → Octets xs → counted ((k + 1) * 8) (bit xs) ≡ counted (k * 8) (bit xs) + ones (get_or xs k 0)
 counts_byte xs k o =
     let e : (k + 1) * 8 ≡ k * 8 + 8 = omega arith in
     ap (λ (n : ℕ). counted n (bit xs)) e ∙ counted_add (k * 8) 8 (bit xs)
     ∙ ap (λ (n : ℕ). counted (k * 8) (bit xs) + n)
     (counted_same 8 (λ j. bit xs (k * 8 + j)) (digit (get_or xs k 0)) (λ j l. bit_at xs k j l) ∙ sym (ones_counted 8 (get_or xs k 0) (o k)))
+
+counts_front : (xs : List ℕ) (k : ℕ) → Octets xs → k ≤ length xs → sum_by ones (take k xs) ≡ counted (k * 8) (bit xs)
+counts_front xs zero o h = counts_none (bit xs)
+counts_front xs (suc k) o h =
+    let s = sum_by_push ones (take k xs) (get_or xs k 0) in
+    rw (← add-one k) (ap (sum_by ones) (take_more xs k 0 (omega arith)) ∙ s ∙ ap (λ (n : ℕ). n + ones (get_or xs k 0)) (counts_front xs k o (omega arith)) ∙ sym (counts_byte xs k o))
+
+pub counts_all : (size : ℕ) (xs : List ℕ) → length xs ≡ size → Octets xs → sum_by ones xs ≡ counted (size * 8) (bit xs)
+counts_all size xs l o = ap (sum_by ones) (sym (take_all size xs (omega arith))) ∙ counts_front xs size o (omega arith)

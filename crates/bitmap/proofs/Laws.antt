@@ -58,6 +58,12 @@ within-union blocks xs ys w v = within-packed 512 blocks (λ j. bit xs j || bit 
 
 -- ---- read from bytes
 
+-- as the code reads them: the copy ys of xs, and its first stray bit
+pub read_as : (xs ys : List ℕ) (blocks : ℕ) (stray : Option ℕ) → length xs ≡ 512 → ys ≡ xs → stray ≡ next (bit ys) blocks (4096 - blocks)
+    → unless_stray ys stray ≡ read_answer xs blocks
+read_as xs ys blocks stray l s n =
+    let e : unless_stray ys stray ≡ unless_stray xs (next (bit xs) blocks (4096 - blocks)) = cc in e ∙ sym (cond-true (eqb (length xs) 512) _ _ (eq-eqb (length xs) 512 l))
+
 -- bytes without a stray bit are read as they are
 pub reads-within : (blocks : ℕ) (xs : List ℕ) → length xs ≡ 512 → Within blocks xs → read_answer xs blocks ≡ Ok xs
 reads-within blocks xs l w =

@@ -78,10 +78,6 @@ octets_set (y ∷ ys) zero x o h (suc k) = o (suc k)
 octets_set (y ∷ ys) (suc i) x o h zero = o zero
 octets_set (y ∷ ys) (suc i) x o h (suc k) = octets_set ys i x (λ m. o (suc m)) h k
 
--- what a bitmap's own facts ask after the write of a byte
-pub stays_whole : (size : ℕ) (xs : List ℕ) (i x : ℕ) → length xs ≡ size → Octets xs → x < 256 → (length (set xs i x) ≡ size) × Octets (set xs i x)
-stays_whole size xs i x l o h = (length-set xs i x ∙ l, octets_set xs i x o h)
-
 one_byte : (size : ℕ) (xs : List ℕ) (on : ℕ → Bool) (i x : ℕ) → length xs ≡ size → Octets xs → i < size → x < 256
     → ((j : ℕ) → j < 8 → digit x j ≡ on (i * 8 + j)) → ((k j : ℕ) → k ≢ i → j < 8 → digit (get_or xs k 0) j ≡ on (k * 8 + j)) → set xs i x ≡ packed size on
 one_byte size xs on i x l o h b same others =

@@ -1,4 +1,3 @@
-pub mod Supplies
 pub mod Cases
 pub mod Areas
 pub mod Overlays

@@ -38,7 +38,7 @@ impl Device for Flat<'_> {
     }
 
     fn set_supply(&mut self, supply: u32) -> Result<(), DeviceFault> {
-        self.supply = Supply::of(supply)?;
+        self.supply = Supply::try_from(supply)?;
         Ok(())
     }
 }
@@ -61,7 +61,7 @@ impl<'a> Flat<'a> {
     pub fn into_area(self) -> &'a mut [u8]
         ensures { result.now ≡ self.entry.area.now }
     {
-        let area = self.area;
+        let Flat { area, .. } = self;
         area
     }
 }

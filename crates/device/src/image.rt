@@ -48,7 +48,7 @@ impl Device for Image<'_, '_> {
     }
 
     fn set_supply(&mut self, supply: u32) -> Result<(), DeviceFault> {
-        self.supply = Supply::of(supply)?;
+        self.supply = Supply::try_from(supply)?;
         Ok(())
     }
 }
@@ -75,7 +75,7 @@ impl<'f, 'a> Image<'f, 'a> {
     pub fn into_area(self) -> &'a mut [u8]
         ensures { result.now ≡ self.entry.area.now }
     {
-        let area = self.area;
+        let Image { area, .. } = self;
         area
     }
 }

@@ -3,9 +3,12 @@
 #![tactic(auto)]
 
 mod checks;
+mod supply;
+
+// Each make is written out. What a read, a write and a supply have in common is in `checks` and `supply`; one type for both,
+// generic in where its blocks lie, would need a trait with their meaning and its laws, to save a line or two of each method.
 pub mod flat;
 pub mod image;
-mod supply;
 
 ghost use Rattle.std.specs.Prelude.{◌≡◌, length};
 ghost use Rattle.device.specs.Disk.{Meaning, read_answer, read_into, write_answer, written, supply_answer, supplied};

@@ -6,28 +6,36 @@ ghost use Rattle.device.specs.Makes.{carried};
 
 use crate::DeviceFault;
 
-// Mains never falls. Every larger number means mains too, so that each value of the type has a meaning.
+// Mains never falls. It is a number among the supplies, as the rules have it, and not a variant beside them.
 const MAINS: u32 = 1_000_001;
 
+// Every number above mains means mains too, so that each value of the type has a meaning. A ghost field that rules them out
+// was tried: a function that answers a make, which holds a `&mut` beside its supply, then gets no proof.
 #[derive(Clone, Copy)]
 pub struct Supply {
     left: u32,
 }
 
+#[tactic(auto, unfolding(crate::specs::Makes::carried))]
+impl TryFrom<u32> for Supply {
+    type Error = DeviceFault;
+
+    ghost try_from_gives = { λ n r. MatchResult r (λ s. (n ≤ 1000001) × (carried s.left ≡ n)) (λ e. (1000001 < n) × (e ≡ Measure)) };
+
+    fn try_from(left: u32) -> Result<Supply, DeviceFault> {
+        if left > MAINS {
+            return Err(DeviceFault::Measure);
+        }
+        Ok(Supply { left })
+    }
+}
+
+#[tactic(auto, unfolding(crate::specs::Makes::carried))]
 impl Supply {
     pub fn mains() -> Supply
         ensures { carried result.left ≡ 1000001 }
     {
         Supply { left: MAINS }
-    }
-
-    pub fn of(left: u32) -> Result<Supply, DeviceFault>
-        ensures { MatchResult result (λ s. (left ≤ 1000001) × (carried s.left ≡ left)) (λ e. (1000001 < left) × (e ≡ Measure)) }
-    {
-        if left > MAINS {
-            return Err(DeviceFault::Measure);
-        }
-        Ok(Supply { left })
     }
 
     pub fn is_out(self) -> bool
@@ -40,11 +48,11 @@ impl Supply {
     pub fn spend(self) -> Supply
         ensures { carried result.left ≡ spent (carried self.left) }
     {
-        if self.left >= MAINS || self.left == 0 {
+        if self.left >= MAINS {
             return self;
         }
         Supply {
-            left: self.left - 1,
+            left: self.left.saturating_sub(1),
         }
     }
 }

@@ -43,25 +43,12 @@ mod tests {
         (Ask::Write(1, 512, 5), Ok(()), 0xEE),
     ];
 
-    // A part of a buffer of 513 bytes.
-    fn part(buffer: &[u8], length: usize) -> &[u8] {
-        if length <= buffer.len() {
-            &buffer[0..length]
-        } else {
-            buffer
-        }
-    }
-
+    // What a read into so many bytes of a buffer answers, and the byte that is then at its front.
     fn read<D: Device>(device: &D, block: usize, length: usize) -> (Result<(), DeviceFault>, u8) {
-        let mut whole = [0xEEu8; 512];
-        let mut short = [0xEEu8; 511];
-        if length == 512 {
-            let answer = device.read(block, &mut whole);
-            (answer, whole[0])
-        } else {
-            let answer = device.read(block, &mut short);
-            (answer, short[0])
-        }
+        let mut buffer = [0xEEu8; 513];
+        let n = length.min(513);
+        let answer = device.read(block, &mut buffer[..n]);
+        (answer, buffer[0])
     }
 
     fn answer_of<D: Device>(device: &mut D, what: Ask) -> (Result<(), DeviceFault>, u8) {
@@ -69,7 +56,7 @@ mod tests {
             Ask::Read(block, length) => read(device, block, length),
             Ask::Write(block, length, fill) => {
                 let buffer = [fill; 513];
-                (device.write(block, part(&buffer, length)), 0xEE)
+                (device.write(block, &buffer[..length.min(513)]), 0xEE)
             }
             Ask::Supply(supply) => (device.set_supply(supply), 0xEE),
         }
@@ -88,8 +75,7 @@ mod tests {
         };
         assert_eq!(rt; flat.count(), 4);
         assert_eq!(rt; image.count(), 4);
-        for case in CASES.iter() {
-            let (what, answer, front) = *case;
+        for (what, answer, front) in CASES {
             assert_eq!(rt; answer_of(&mut flat, what), (answer, front));
             assert_eq!(rt; answer_of(&mut image, what), (answer, front));
         }
@@ -118,13 +104,17 @@ mod tests {
         Ok(())
     }
 
+    const TOLD: [(DeviceFault, Refusal, u8); 3] = [
+        (DeviceFault::Range, Refusal::Block, 3),
+        (DeviceFault::Died, Refusal::Died, 23),
+        (DeviceFault::Measure, Refusal::Measure, 2),
+    ];
+
     #[test]
     fn faults_are_told_as_refusals(rt: HostRuntime) {
-        let told: Refusal = DeviceFault::Range.into();
-        assert_eq!(rt; (told, told.number()), (Refusal::Block, 3));
-        let told: Refusal = DeviceFault::Died.into();
-        assert_eq!(rt; (told, told.number()), (Refusal::Died, 23));
-        let told: Refusal = DeviceFault::Measure.into();
-        assert_eq!(rt; (told, told.number()), (Refusal::Measure, 2));
+        for (fault, refusal, number) in TOLD {
+            let told: Refusal = fault.into();
+            assert_eq!(rt; (told, told.number()), (refusal, number));
+        }
     }
 }

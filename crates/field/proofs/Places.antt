@@ -3,6 +3,8 @@ use Rattle.std.proofs.Common.{◌≡◌, ℕ, ◌+◌, ◌-◌, ◌<◌, ◌≤�
 use borrow.Rule.Slice.PartMut.{put_mid}
 use Rattle.std.proofs.lemmas.List.{length-take-le, length-take, length-drop, length-append, drop-drop, take-append-drop, take_at, drop_at, take-append-le, take-take, drop-take, append_assoc}
 use Rattle.std.proofs.lemmas.Bool.{cond_both, cond-true, cond-false, and_left, and_right, and_from, and_parts}
+use Rattle.std.specs.Result.{MatchResult, IsErrAnd}
+use Rattle.std.proofs.lemmas.Result.{MatchResult-weaker, err_from_is_err_and}
 use Rattle.field.specs.declared.FieldFault.{FieldFault}
 use Rattle.field.specs.Fields.{written, room, fits, put_answer, fits_at, put_at, read_answer, columns_at, read_at}
 use Rattle.field.proofs.Columns.{length-written}
@@ -35,7 +37,7 @@ pub puts_short : (xs : List ℕ) (at w n : ℕ) → leb (at + w) (length xs) ≡
 unfolding fits_at
 puts_short xs at w n h = puts_nothing xs xs at w n (and_left (leb (at + w) (length xs)) (fits w n) h) refl
 
-pub puts_columns : (xs ys : List ℕ) (at w n : ℕ) (u : Unit {0}) → leb (at + w) (length xs) ≡ true → Puts (lent xs at w) n (Ok u) ys
+puts_columns : (xs ys : List ℕ) (at w n : ℕ) (u : Unit {0}) → leb (at + w) (length xs) ≡ true → Puts (lent xs at w) n (Ok u) ys
     → PutsAt xs at w n (Ok tt) (put_mid at (at + w - at) xs ys)
 unfolding fits_at put_at
 puts_columns xs ys at w n u h p =
@@ -46,7 +48,7 @@ puts_columns xs ys at w n u h p =
     let d : drop (at + w - at) (drop at xs) ≡ drop (at + w) xs = let k : at + (at + w - at) ≡ at + w = omega arith in drop-drop (at + w - at) at xs ∙ ap (λ (z : ℕ). drop z xs) k in
     ((simp t), (cc (y, d)) ∙ sym (cond-true (fits_at xs at w n) _ _ t))
 
-pub puts_refused : (xs ys : List ℕ) (at w n : ℕ) (e : FieldFault) → leb (at + w) (length xs) ≡ true → Puts (lent xs at w) n (Err e) ys
+puts_refused : (xs ys : List ℕ) (at w n : ℕ) (e : FieldFault) → leb (at + w) (length xs) ≡ true → Puts (lent xs at w) n (Err e) ys
     → PutsAt xs at w n (Err (record { at = at })) (put_mid at (at + w - at) xs ys)
 unfolding fits_at
 puts_refused xs ys at w n e h p =
@@ -58,20 +60,40 @@ puts_refused xs ys at w n e h p =
     let b = take-append-drop at xs in
     puts_nothing xs (put_mid at (at + w - at) xs ys) at w n t (cc (y, a, b))
 
+-- q is the answer r with its fault moved to `at`
+abbrev pub Moved : {T : Type 0} → ℕ → Result T FieldFault → Result T FieldFault → Type 0
+Moved at r q = MatchResult r (λ x. q ≡ Ok x) (λ _. q ≡ Err (record { at = at }))
+
+-- as `map_err` leaves it
+pub moved : {T : Type 0} (at : ℕ) (r q : Result T FieldFault) (Q : FieldFault → FieldFault → Type 0) → ((e f : FieldFault) → Q e f → f ≡ record { at = at })
+    → MatchResult r (λ x. q ≡ Ok x) (λ e. IsErrAnd q (Q e)) → Moved at r q
+moved at r q Q h m =
+    MatchResult-weaker r m (λ x e. e) (λ e i. let p = err_from_is_err_and q i in p.1 ∙ ap (λ (f : FieldFault). Err f) (h e p.0 p.2))
+
+pub puts_moved : (xs ys : List ℕ) (at w n : ℕ) (r q : Result (Unit {0}) FieldFault) → leb (at + w) (length xs) ≡ true → Puts (lent xs at w) n r ys → Moved at r q
+    → PutsAt xs at w n q (put_mid at (at + w - at) xs ys)
+puts_moved xs ys at w n (Ok u) q h p m = let b = puts_columns xs ys at w n u h p in (m ∙ b.0, b.1)
+puts_moved xs ys at w n (Err e) q h p m = let b = puts_refused xs ys at w n e h p in (m ∙ b.0, b.1)
+
 pub reads_short : (xs : List ℕ) (at w most : ℕ) → leb (at + w) (length xs) ≡ false → Err (record { at = at }) ≡ read_at xs at w most
 unfolding read_at
 reads_short xs at w most h = sym (cond-false (leb (at + w) (length xs)) _ _ h)
 
-pub reads_columns : (xs : List ℕ) (at w most n : ℕ) → leb (at + w) (length xs) ≡ true → Ok n ≡ read_answer most (lent xs at w) 0 → Ok n ≡ read_at xs at w most
+reads_columns : (xs : List ℕ) (at w most n : ℕ) → leb (at + w) (length xs) ≡ true → Ok n ≡ read_answer most (lent xs at w) 0 → Ok n ≡ read_at xs at w most
 unfolding read_at
 reads_columns xs at w most n h e =
     sym (cond-true (leb (at + w) (length xs)) _ _ h ∙ ap (λ (z : List ℕ). read_answer most z at) (sym (lent_is xs at w)) ∙ answer_moves most (lent xs at w) 0 at n (sym e))
 
-pub reads_fault : (xs : List ℕ) (at w most : ℕ) (f : FieldFault) → leb (at + w) (length xs) ≡ true → Err f ≡ read_answer most (lent xs at w) 0
+reads_fault : (xs : List ℕ) (at w most : ℕ) (f : FieldFault) → leb (at + w) (length xs) ≡ true → Err f ≡ read_answer most (lent xs at w) 0
     → Err (record { at = at }) ≡ read_at xs at w most
 unfolding read_at
 reads_fault xs at w most f h e =
     sym (cond-true (leb (at + w) (length xs)) _ _ h ∙ ap (λ (z : List ℕ). read_answer most z at) (sym (lent_is xs at w)) ∙ fault_moves most (lent xs at w) 0 at f (sym e))
+
+pub reads_moved : (xs : List ℕ) (at w most : ℕ) (r q : Result ℕ FieldFault) → leb (at + w) (length xs) ≡ true → r ≡ read_answer most (lent xs at w) 0 → Moved at r q
+    → q ≡ read_at xs at w most
+reads_moved xs at w most (Ok n) q h e m = m ∙ reads_columns xs at w most n h e
+reads_moved xs at w most (Err f) q h e m = m ∙ reads_fault xs at w most f h e
 
 -- ---- what an answer says
 

@@ -1,5 +1,5 @@
 -- The law of reading: bytes are read as a number exactly if they are what is written for it.
-use Rattle.std.proofs.Common.{◌≡◌, ℕ, zero, suc, ◌+◌, ◌-◌, ◌*◌, ◌/◌, ◌%◌, ◌<◌, ◌≤◌, true, eqb, ltb, leb, List, [], ◌∷◌, ◌++◌, length, replicate, Ok, Err, Result, sym, refl, ap, ◌∙◌, subst, inl, inr, mod-lt, arith, lit<, ltb-true, lt-ltb, eq-eqb, eqb-true, le-leb, leb-true}
+use Rattle.std.proofs.Common.{◌≡◌, ℕ, zero, suc, ◌+◌, ◌*◌, ◌/◌, ◌%◌, ◌<◌, ◌≤◌, true, eqb, ltb, leb, List, [], ◌∷◌, ◌++◌, length, replicate, Ok, Err, Result, sym, refl, ap, ◌∙◌, subst, inl, inr, mod-lt, arith, lit<, ltb-true, lt-ltb, eq-eqb, eqb-true, le-leb, leb-true}
 use Rattle.std.proofs.lemmas.Nat.{div-add-mod'}
 use Rattle.std.proofs.lemmas.List.Sums.{fold_push}
 use Rattle.std.proofs.lemmas.Bool.{cond_both, cond-true, and_parts, cases_lt}
@@ -42,18 +42,12 @@ value-digit xs n e =
     fold_push (λ a x. a * 10 + worth x) 0 xs (48 + n % 10) ∙ (rw (e, worth-digit (n % 10) (mod-lt n (lit< tt))) (div-add-mod' n 10))
 
 pub value_written : (w n : ℕ) → n < room w → value (written w n) ≡ n
-value_written zero n h = absurd (omega (arith, room_none zero n refl))
+value_written zero n h = absurd (omega (arith, room_none n))
 value_written (suc w) n h =
-    let some : suc w ≡ 0 → ⊥ = λ e. absurd (omega arith) in
-    let k : suc w - 1 ≡ w = omega arith in
     elim (cases_lt n 10) [
       | inl l ↦
-          let z : value (replicate (suc w - 1) 32) ≡ n / 10 = value_spaces (suc w - 1) ∙ (omega arith) in
-          ap value (written_last (suc w) n some l) ∙ value-digit (replicate (suc w - 1) 32) n z
-      | inr g ↦
-          let f : n / 10 < room w = rw k at (room_less (suc w) n g h) in
-          let z : value (written (suc w - 1) (n / 10)) ≡ n / 10 = rw k (value_written w (n / 10) f) in
-          ap value (written_more (suc w) n some g) ∙ value-digit (written (suc w - 1) (n / 10)) n z
+          let z : value (replicate w 32) ≡ n / 10 = value_spaces w ∙ (omega arith) in ap value (written_last w n l) ∙ value-digit (replicate w 32) n z
+      | inr g ↦ ap value (written_more w n g) ∙ value-digit (written w (n / 10)) n (value_written w (n / 10) (room_less w n g h))
     ]
 
 -- two numbers never have the same field

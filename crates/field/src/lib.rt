@@ -1,7 +1,8 @@
 // Decimal numbers in a fixed number of columns: right-justified, spaces before, no leading zeros, nought as one 0.
 #![tactic(auto)]
 
-ghost use Rattle.std.specs.Prelude.{◌≡◌, ◌+◌, length, replicate, Decides, nat_le};
+ghost use Rattle.std.specs.Prelude.{◌≡◌, ◌+◌, length, nat_le, ◌==◌};
+ghost use Rattle.std.specs.List.{list_all};
 ghost use Rattle.field.specs.Fields.{fits, put_answer, put_into, fits_at, put_at, read_answer, read_at, RoundTrip};
 
 // The field that starts at the byte `at` holds no number that may stand there, or cannot take the number.
@@ -12,22 +13,23 @@ pub struct FieldFault {
 
 const SPACE: u8 = b' ';
 
+// `put` and `get` work on the field alone, which starts at its first byte.
+const UNFIT: FieldFault = FieldFault { at: 0 };
+
 // Writes a number into all of `out`. One that is too large is refused before any column is written.
 pub fn put(out: &mut [u8], number: u64) -> Result<(), FieldFault>
     ensures answer { result ≡ put_answer (fits (length out.old) number) 0 }
     ensures after { out.new ≡ put_into out.old number }
 {
-    let columns = out.len();
-    if columns == 0 {
-        return Err(FieldFault { at: 0 });
-    }
-    let last = columns - 1;
+    let Some((last, before)) = out.split_last_mut() else {
+        return Err(UNFIT);
+    };
     if number < 10 {
-        out[0..last].fill(SPACE);
+        before.fill(SPACE);
     } else {
-        put(&mut out[0..last], number / 10)?;
+        put(before, number / 10)?;
     }
-    out[last] = b'0' + (number % 10) as u8;
+    *last = b'0' + (number % 10) as u8;
     Ok(())
 }
 
@@ -46,21 +48,13 @@ pub fn put_at(block: &mut [u8], at: usize, columns: usize, number: u64) -> Resul
     if !has_columns(block.len(), at, columns) {
         return Err(FieldFault { at });
     }
-    match put(&mut block[at..at + columns], number) {
-        Ok(()) => Ok(()),
-        Err(_) => Err(FieldFault { at }),
-    }
+    put(&mut block[at..at + columns], number).map_err(|_| FieldFault { at })
 }
 
 fn is_blank(columns: &[u8]) -> bool
-    ensures { Decides result (columns.now ≡ replicate (length columns.now) 32) }
+    ensures { result ≡ list_all (λ x. x == 32) columns.now }
 {
-    for column in columns {
-        if *column != SPACE {
-            return false;
-        }
-    }
-    true
+    columns.iter().all(|column| *column == SPACE)
 }
 
 // Reads the number, at most `most`, that all of `bytes` is the field of.
@@ -68,31 +62,28 @@ pub fn get(bytes: &[u8], most: u64) -> Result<u64, FieldFault>
     ensures answer { result ≡ read_answer most bytes.now 0 }
     ensures law { RoundTrip most bytes.now result }
 {
-    let columns = bytes.len();
-    if columns == 0 {
-        return Err(FieldFault { at: 0 });
+    let Some((last, before)) = bytes.split_last() else {
+        return Err(UNFIT);
+    };
+    if !last.is_ascii_digit() {
+        return Err(UNFIT);
     }
-    let last = columns - 1;
-    let byte = bytes[last];
-    if byte < b'0' || byte > b'9' {
-        return Err(FieldFault { at: 0 });
-    }
-    let digit = (byte - b'0') as u64;
+    let digit = u64::from(*last - b'0');
     if digit > most {
-        return Err(FieldFault { at: 0 });
+        return Err(UNFIT);
     }
-    if is_blank(&bytes[0..last]) {
+    if is_blank(before) {
         return Ok(digit);
     }
     // A digit before it, which is not 0, takes a limit that is not 0. So no more than twenty calls are ever nested.
     let limit = (most - digit) / 10;
     if limit == 0 {
-        return Err(FieldFault { at: 0 });
+        return Err(UNFIT);
     }
-    match get(&bytes[0..last], limit)? {
+    match get(before, limit)? {
         // No leading zeros.
-        0 => Err(FieldFault { at: 0 }),
-        before => Ok(before * 10 + digit),
+        0 => Err(UNFIT),
+        number => Ok(number * 10 + digit),
     }
 }
 
@@ -103,8 +94,5 @@ pub fn get_at(block: &[u8], at: usize, columns: usize, most: u64) -> Result<u64,
     if !has_columns(block.len(), at, columns) {
         return Err(FieldFault { at });
     }
-    match get(&block[at..at + columns], most) {
-        Ok(number) => Ok(number),
-        Err(_) => Err(FieldFault { at }),
-    }
+    get(&block[at..at + columns], most).map_err(|_| FieldFault { at })
 }

@@ -28,9 +28,14 @@ abbrev pub younger : {X : Type 0} → List X → List X
 younger [] = []
 younger (x ∷ xs) = xs
 
--- where the i-th stands, of n slots that are used from the first on
+-- where the oldest stands, of n slots that are used from the first on
 abbrev pub start_of : ℕ → ℕ → ℕ
 start_of first n = cond (nat_lt first n) first 0
 
+-- what waits before the end of the slots
+abbrev pub ahead : {X : Type 0} → List X → Ring → List X
+ahead xs q = take q.used (drop (start_of q.first (length xs)) xs)
+
+-- and where the i-th stands
 abbrev pub place_of : ℕ → ℕ → ℕ → ℕ
 place_of first n i = cond (nat_lt i (n - start_of first n)) (start_of first n + i) (i - (n - start_of first n))

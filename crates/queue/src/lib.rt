@@ -2,9 +2,9 @@
 // What a place out of use holds is told by no answer.
 #![tactic(auto)]
 
-ghost use Rattle.std.specs.Prelude.{◌≡◌, ◌<◌, ◌≤◌, length, nat_lt, slice_set};
+ghost use Rattle.std.specs.Prelude.{◌≡◌, ◌<◌, ◌≤◌, ◌++◌, length, nat_lt, slice_set};
 ghost use Rattle.std.specs.List.{slice_get};
-ghost use Rattle.queue.specs.Queue.{contents, vacant, has_room, with_one, oldest, younger, place_of};
+ghost use Rattle.queue.specs.Queue.{contents, vacant, has_room, with_one, oldest, younger, ahead, start_of, place_of};
 
 // Which of the slots are in use: from the `first` on, round the end, `used` of them.
 // Every value has a meaning over every slice: a `first` past the slots means 0, and a `used` above their number means all.
@@ -33,15 +33,11 @@ impl Ring {
         ensures all { result ≡ length (contents slots.now self.now) }
         ensures within { result ≤ length slots.now }
     {
-        let places = slots.len();
-        if self.used < places {
-            self.used
-        } else {
-            places
-        }
+        self.used.min(slots.len())
     }
 
-    // One more at the end, if there is room: whether there was.
+    // One more at the end, if there is room: whether there was. The caller still has the element, a copy, so an
+    // error would have nothing to hand back.
     pub fn put<T: Copy>(&mut self, slots: &mut [T], x: T) -> bool
         ensures answer { result ≡ has_room slots.old self.old }
         ensures after { contents slots.new self.new ≡ with_one slots.old self.old x }
@@ -61,27 +57,31 @@ impl Ring {
         ensures answer { result ≡ oldest (contents slots.now self.old) }
         ensures after { contents slots.now self.new ≡ younger (contents slots.now self.old) }
     {
+        let oldest = self.look(slots, 0)?;
+        self.used = self.count(slots) - 1;
+        self.first = self.start(slots.len()) + 1;
+        Some(oldest)
+    }
+
+    // What waits, the oldest first, as it stands in the slots: up to their end, and round from their start on.
+    pub fn as_slices<'a, T>(&self, slots: &'a [T]) -> (&'a [T], &'a [T])
+        ensures all { result.0.now ++ result.1.now ≡ contents slots.now self.now }
+        ensures first { result.0.now ≡ ahead slots.now self.now }
+    {
         let waiting = self.count(slots);
-        if waiting == 0 {
-            return None;
-        }
-        let place = self.place(slots.len(), 0);
-        self.first = place + 1;
-        self.used = waiting - 1;
-        Some(slots[place])
+        let (back, front) = slots.split_at(self.start(slots.len()));
+        let ahead = waiting.min(front.len());
+        (&front[..ahead], &back[..waiting - ahead])
     }
 
     // The i-th from the oldest on, which stays.
     pub fn look<T: Copy>(&self, slots: &[T], i: usize) -> Option<T>
         ensures { result ≡ slice_get (contents slots.now self.now) i }
     {
-        if i >= self.count(slots) {
-            return None;
-        }
-        Some(slots[self.place(slots.len(), i)])
+        (i < self.count(slots)).then(|| slots[self.place(slots.len(), i)])
     }
 
-    // Another value for the i-th from the oldest on: whether there is an i-th.
+    // Another value for the i-th from the oldest on: whether there is an i-th. As for `put`, an error would have nothing to hand back.
     pub fn replace<T: Copy>(&self, slots: &mut [T], i: usize, x: T) -> bool
         ensures answer { result ≡ nat_lt i (length (contents slots.old self.now)) }
         ensures after { contents slots.new self.now ≡ slice_set (contents slots.old self.now) i x }
@@ -94,12 +94,20 @@ impl Ring {
         true
     }
 
+    // Where the oldest stands, of so many places.
+    fn start(&self, places: usize) -> usize
+        ensures at { result ≡ start_of self.now.first places }
+        ensures within { result ≤ places }
+    {
+        if self.first < places { self.first } else { 0 }
+    }
+
     // The place of the i-th from the oldest on, round the end; in range where i is.
     fn place(&self, places: usize, i: usize) -> usize
         ensures at { result ≡ place_of self.now.first places i }
         ensures within { i < places → result < places }
     {
-        let start = if self.first < places { self.first } else { 0 };
+        let start = self.start(places);
         let to_end = places - start;
         if i < to_end { start + i } else { i - to_end }
     }

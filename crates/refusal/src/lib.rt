@@ -115,17 +115,13 @@ impl fmt::Display for Refusal {
     ghost output = { λ r. Some (text_of r) };
 
     fn fmt<W: fmt::Write>(&self, f: &mut fmt::Formatter<W>) -> fmt::Result {
-        let number = self.number();
-        let name = self.name();
+        write!(f, "refused {} {}", self.number(), self.name())?;
         match *self {
             Refusal::Meta { node, block, byte } => {
-                write!(
-                    f,
-                    "refused {number} {name} node {node} block {block} byte {byte}"
-                )
+                write!(f, " node {node} block {block} byte {byte}")
             }
-            Refusal::Frame { byte } => write!(f, "refused {number} {name} byte {byte}"),
-            _ => write!(f, "refused {number} {name}"),
+            Refusal::Frame { byte } => write!(f, " byte {byte}"),
+            _ => Ok(()),
         }
     }
 }

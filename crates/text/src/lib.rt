@@ -1,8 +1,8 @@
 // Numbers and blocks as a person writes and reads them.
 #![tactic(auto)]
 
-ghost use Rattle.std.specs.Prelude.{◌≡◌, ◌%◌, ◌++◌, length, IfOk, string_bytes, OnOk, nat_le};
-ghost use Rattle.text.specs.Text.{number_of, trimmed_of, filled, hex_digit, plain, spelled, spelled_all, shown_of};
+ghost use Rattle.std.specs.Prelude.{◌≡◌, ◌++◌, length, IfOk, string_bytes, OnOk, nat_le};
+ghost use Rattle.text.specs.Text.{number_of, trimmed_of, filled, plain, spelled, spelled_all, shown_of};
 
 use std::alloc::{AllocError, Global};
 
@@ -10,69 +10,62 @@ use std::alloc::{AllocError, Global};
 pub fn number(word: &str) -> Option<u64>
     ensures { result ≡ number_of word.now }
 {
-    let bytes = word.as_bytes();
-    if bytes.is_empty() {
+    if word.is_empty() {
         return None;
     }
     let mut value: u64 = 0;
-    for b in bytes {
-        if *b < b'0' || *b > b'9' {
+    for b in word.as_bytes() {
+        if !b.is_ascii_digit() {
             return None;
         }
-        value = value.saturating_mul(10).saturating_add((*b - b'0') as u64);
+        value = value
+            .saturating_mul(10)
+            .saturating_add(u64::from(*b - b'0'));
     }
     Some(value)
 }
 
 // The bytes up to the trailing zeros.
+#[tactic(auto, using(crate::proofs::Prefixes::trim_goes, crate::proofs::Prefixes::trim_stays))]
 pub fn trimmed(bytes: &[u8]) -> &[u8]
     ensures { result.now ≡ trimmed_of bytes.now }
 {
-    let mut end = bytes.len();
-    while end > 0 && bytes[end - 1] == 0 {
-        end -= 1;
+    let mut kept = bytes;
+    while let [before @ .., 0] = kept {
+        kept = before;
     }
-    &bytes[0..end]
+    kept
 }
 
 // The text and then zeros into the block; false, and nothing written, where it is longer than the block.
+// A bool, as `insert` of a set has it: there is no value beside it, and a caller takes one of two ways by it.
 pub fn fill(block: &mut [u8], text: &[u8]) -> bool
     ensures answer { result ≡ nat_le (length text.now) (length block.old) }
     ensures after { block.new ≡ filled block.old text.now }
 {
-    let n = text.len();
-    if n > block.len() {
+    let Some((front, rest)) = block.split_at_mut_checked(text.len()) else {
         return false;
-    }
-    block.fill(0);
-    block[0..n].copy_from_slice(text);
+    };
+    front.copy_from_slice(text);
+    rest.fill(0);
     true
-}
-
-fn hex_digit(digit: u8) -> u8
-    ensures { result ≡ hex_digit (digit % 16) }
-{
-    let d = digit % 16;
-    if d < 10 { b'0' + d } else { b'A' - 10 + d }
 }
 
 fn prints(b: u8) -> bool
     ensures { result ≡ plain b }
 {
-    b >= 32 && b <= 126 && b != b'\\'
+    matches!(b, b' '..=b'~') && b != b'\\'
 }
 
 // A byte that prints as itself; any other, and a backslash, as \xHH.
+#[tactic(auto, using(crate::proofs::Prefixes::spelled_hex))]
 fn spell(text: &mut String, b: u8) -> Result<(), AllocError>
     ensures { OnOk result (string_bytes text.new ≡ string_bytes text.old ++ spelled b) }
 {
     if prints(b) {
-        return text.push(b as char);
+        return text.push(char::from(b));
     }
-    text.push_str("\\x")?;
-    text.push(hex_digit(b / 16) as char)?;
-    text.push(hex_digit(b % 16) as char)?;
-    Ok(())
+    write!(text, "\\x{b:02X}")
 }
 
 // The bytes as text, spelled one by one.

@@ -22,8 +22,7 @@ mod tests {
 
     #[test]
     fn numbers(rt: HostRuntime) {
-        for case in NUMBERS.iter() {
-            let (word, value) = *case;
+        for (word, value) in NUMBERS {
             assert_eq!(rt; text::number(word), value);
         }
     }
@@ -39,8 +38,7 @@ mod tests {
 
     #[test]
     fn texts(rt: HostRuntime) -> Result<(), Fail> {
-        for case in TEXTS.iter() {
-            let (bytes, words) = *case;
+        for (bytes, words) in TEXTS {
             let shown = text::shown(rt.alloc(), bytes)?;
             assert_eq!(rt; shown.as_str(), words);
         }

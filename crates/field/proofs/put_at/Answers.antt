@@ -1,5 +1,5 @@
-use Rattle.std.proofs.Common.{sym, ◌∙◌}
-use Rattle.field.proofs.Places.{puts_short, puts_columns, puts_refused}
+use Rattle.std.proofs.Common.{sym, ◌∙◌, rules}
+use Rattle.field.proofs.Places.{puts_short, puts_moved, moved}
 use Rattle.field.proofs.put_at.Goals as goal
 
 pub returns-then-not-has_columns : goal.returns-then-not-has_columns
@@ -10,20 +10,12 @@ returns-then-not-has_columns c =
     in
     record { answer = h.0; after = h.1 }
 
-pub returns-in-Ok : goal.returns-in-Ok
-returns-in-Ok c =
-    let e = c.in-Ok.ensures in
+pub returns : goal.returns
+returns c =
+    let e = c.put.ensures in
     let h =
-    puts_columns c.args.block.now c.put.new.out c.args.at c.args.columns c.args.number c.in-Ok.field-0
+    puts_moved c.args.block.now c.put.new.out c.args.at c.args.columns c.args.number c.put.result c.map_err.result
     (sym c.has_columns.ensures ∙ c.if-not-has_columns.false) (e.answer, e.after)
-    in
-    record { answer = h.0; after = h.1 }
-
-pub returns-in-Err : goal.returns-in-Err
-returns-in-Err c =
-    let e = c.in-Err.ensures in
-    let h =
-    puts_refused c.args.block.now c.put.new.out c.args.at c.args.columns c.args.number c.in-Err.field-0
-    (sym c.has_columns.ensures ∙ c.if-not-has_columns.false) (e.answer, e.after)
+    (moved c.args.at c.put.result c.map_err.result _ (λ e f i. search rules) c.map_err.ensures.cases)
     in
     record { answer = h.0; after = h.1 }

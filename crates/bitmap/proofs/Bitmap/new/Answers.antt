@@ -1,4 +1,3 @@
-use Rattle.std.proofs.Common.{refl}
 use Rattle.bitmap.proofs.Packing.{packed_none, zeros_octets}
 use Rattle.bitmap.proofs.Bitmap.new.Goals as goal
 
@@ -6,4 +5,4 @@ pub returns : goal.returns
 returns c = packed_none 512
 
 pub invariant_of-result : goal.invariant_of-result
-invariant_of-result c = record { whole = refl; octets = zeros_octets 512 }
+invariant_of-result c = record { octets = zeros_octets 512 }

@@ -1,39 +1,40 @@
-use Rattle.std.proofs.Common.{◌-◌, ◌/◌, ◌%◌, get_or, sym, arith}
-use lib.Pow.{shr_le}
-use Rattle.bitmap.proofs.Seeking.{found_in_rest, found_in_byte, found_none, found_past, clear_rest, clear_more}
+use Rattle.std.proofs.Common.{◌≡◌, ◌+◌, ◌-◌, ◌/◌, length, sym, arith}
+use Rattle.bitmap.proofs.Seeking.{found_in_rest, found_past, clear_rest, sought, sought_none}
 use Rattle.bitmap.proofs.Bitmap.next_set.Goals as goal
 
-pub returns-then-from-ge-BITS : goal.returns-then-from-ge-BITS
-returns-then-from-ge-BITS c =
-    let self = c.args.self.now in sym (found_past self.bytes c.args.from (4096 - c.args.from) (let h = c.if-from-ge-BITS.true in omega arith))
+pub returns-in_err-rest : goal.returns-in_err-rest
+returns-in_err-rest c =
+    let self = c.args.self.now in
+    let p = c.in_err-rest.ensures.lookup in
+    let l : length self.bytes ≡ 512 = omega arith in
+    rw c.from_residual.ensures (sym (found_past self.bytes c.args.from (4096 - c.args.from) (omega arith)))
 
 pub returns-then-rest-ne0 : goal.returns-then-rest-ne0
 returns-then-rest-ne0 c =
     let self = c.args.self.now in
     let from = c.args.from in
-    let l = c.if-from-ge-BITS.false in
-    let b = self.octets (from / 8) in
-    let d = shr_le (get_or self.bytes (from / 8) 0) (from % 8) in
-    sym (found_in_rest self.bytes from (4096 - from) self.octets (omega arith) c.if-rest-ne0.true (omega arith))
+    let l : length self.bytes ≡ 512 = omega arith in
+    let p = c.in_ok-rest.ensures.lookup.3 in
+    let k = p.0 in
+    sym (found_in_rest self.bytes from (4096 - from) _ self.octets (p.1 0) c.if-rest-ne0.true (omega arith))
 
-pub loop-k-init : goal.loop-k-init
-loop-k-init c = clear_rest c.args.self.now.bytes c.args.from c.if-rest-ne0.false
-
-pub returns-then-byte-ne0 : goal.returns-then-byte-ne0
-returns-then-byte-ne0 c =
+pub returns-in_err-k : goal.returns-in_err-k
+returns-in_err-k c =
     let self = c.args.self.now in
     let from = c.args.from in
-    let l = c.if-from-ge-BITS.false in
-    let a = c.loop-k.auto.k in
-    let t = c.loop-k-test.true in
-    sym (found_in_byte self.bytes from (4096 - from) c.loop-k.k self.octets c.loop-k.invariant (omega arith) (omega arith) c.if-byte-ne0.true)
-
-pub loop-k-preserved : goal.loop-k-preserved
-loop-k-preserved c = clear_more c.args.self.now.bytes c.args.from c.loop-k.k c.loop-k.invariant c.if-byte-ne0.false
+    let l : length self.bytes ≡ 512 = omega arith in
+    let p = c.in_ok-rest.ensures.lookup.3 in
+    let k = p.0 in
+    rw c.from_residual-in_err-k.ensures
+    (sym (sought_none self.bytes from (4096 - from) (from / 8 + 1) (512 - (from / 8 + 1)) (clear_rest self.bytes from _ (p.1 0) c.if-rest-ne0.false) (omega arith)
+    (sym c.in_err-k.ensures) (omega arith)))
 
 pub returns : goal.returns
 returns c =
+    let self = c.args.self.now in
     let from = c.args.from in
-    let l = c.if-from-ge-BITS.false in
-    let t = c.loop-k-test.false in
-    sym (found_none c.args.self.now.bytes from (4096 - from) c.loop-k.k c.loop-k.invariant (omega arith))
+    let l : length self.bytes ≡ 512 = omega arith in
+    let p = c.in_ok-rest.ensures.lookup.3 in
+    let k = p.0 in
+    sym (sought self.bytes from (4096 - from) (from / 8 + 1) (512 - (from / 8 + 1)) c.in_ok-k.field-0 self.octets
+    (clear_rest self.bytes from _ (p.1 0) c.if-rest-ne0.false) (omega arith) (sym c.in_ok-k.ensures) (omega arith) (omega arith))
