@@ -1,4 +1,5 @@
 pub mod Channel
 pub mod Faults
+pub mod Lends
 pub mod Makes
 pub mod Soundness

@@ -1,19 +1,18 @@
 -- What holds of every link holds of each make.
-use Rattle.std.specs.Prelude.{◌≡◌, ℕ, ◌<◌, ◌≤◌, Bool, List, [], ◌∷◌, ◌++◌, length, refl}
-use Rattle.std.proofs.Common.{sym, subst, ⊎_elim, arith}
-use Rattle.std.proofs.lemmas.Bool.{le-leb, lt-leb, cases_lt, cond-true, cond-false}
+use Rattle.std.specs.Prelude.{◌≡◌, ℕ, ◌≤◌, Bool, List, [], ◌∷◌, ◌++◌, length, refl}
+use Rattle.std.proofs.Common.{arith}
 use Rattle.std.proofs.lemmas.List.{length-map, length-take-le, length-append}
 use Rattle.std.proofs.ByRecursion.{All-map, All-append}
 use Rattle.std.specs.List.{AllByRecursion}
-use Rattle.queue.specs.declared.Ring.{Ring}
 use Rattle.queue.specs.Queue.{contents}
 use Rattle.queue.proofs.Rounds.{contents-within}
 use Rattle.link.specs.declared.Way.{Way}
 use Rattle.link.specs.declared.Way.TheVariants.{ZeroToOne, OneToZero}
 use Rattle.link.specs.declared.frame.Frame.{Frame}
-use Rattle.link.specs.declared.rings.Rings.{Rings}
+use Rattle.link.specs.declared.lanes.Lane.{Lane}
+use Rattle.link.specs.declared.lanes.Lanes.{Lanes}
 use Rattle.link.specs.Channel.{Channel, Ways, Sound, SoundChannel, IsFrame, queued, waiting}
-use Rattle.link.specs.Makes.{bytes_of, frames_of, ways_of, slot_channel, behind, extended, hop_channel}
+use Rattle.link.specs.Makes.{bytes_of, lane_frames, ways_of, slot_channel, behind, extended}
 
 pub bytes_length : (f : Frame) → length (bytes_of f) ≡ f.len
 bytes_length f = length-take-le _ _ (omega (arith, f.within, f.whole))
@@ -25,31 +24,23 @@ pub frames_sized : (fs : List Frame) → AllByRecursion (λ f. IsFrame (bytes_of
 frames_sized [] = tt
 frames_sized (f ∷ fs) = (frame_sized f, frames_sized fs)
 
-pub ring_sized : (slots : List Frame) (ring : Ring) → AllByRecursion IsFrame (frames_of slots ring)
-ring_sized slots ring = All-map IsFrame bytes_of _ (frames_sized (contents slots ring))
+pub lane_sized : {n : ℕ} (l : Lane n) → AllByRecursion IsFrame (lane_frames l)
+lane_sized l = All-map IsFrame bytes_of _ (frames_sized (contents l.frames l.ring))
 
-pub ways_sized : (a b : List Frame) (r : Rings) (y : Way) → AllByRecursion IsFrame (queued (ways_of a b r) y)
-ways_sized a b r ZeroToOne = ring_sized a r.ahead
-ways_sized a b r OneToZero = ring_sized b r.back
+pub ways_sized : {n : ℕ} (l : Lanes n) (y : Way) → AllByRecursion IsFrame (queued (ways_of l) y)
+ways_sized l ZeroToOne = lane_sized l.ahead
+ways_sized l OneToZero = lane_sized l.back
 
-pub ring_within : (slots : List Frame) (ring : Ring) (n : ℕ) → length slots ≡ n → length (frames_of slots ring) ≤ n
-ring_within slots ring n e = omega (arith, length-map (contents slots ring) bytes_of, contents-within slots ring)
+pub lane_within : {n : ℕ} (l : Lane n) → length (lane_frames l) ≤ n
+lane_within l = omega (arith, length-map (contents l.frames l.ring) bytes_of, contents-within l.frames l.ring, l.places)
 
-pub ways_within : (a b : List Frame) (r : Rings) (n : ℕ) → length a ≡ n → length b ≡ n → (y : Way) → length (queued (ways_of a b r) y) ≤ n
-ways_within a b r n e d ZeroToOne = ring_within a r.ahead n e
-ways_within a b r n e d OneToZero = ring_within b r.back n d
+pub ways_within : {n : ℕ} (l : Lanes n) (y : Way) → length (queued (ways_of l) y) ≤ n
+ways_within l ZeroToOne = lane_within l.ahead
+ways_within l OneToZero = lane_within l.back
 
 pub behind-queued : (p q : Ways) (y : Way) → queued (behind p q) y ≡ queued p y ++ queued q y
 behind-queued p q ZeroToOne = refl
 behind-queued p q OneToZero = refl
-
-pub hop_low : (c : Channel) (q : Ways) → c.capacity ≤ 999996 → hop_channel c q ≡ extended c q
-unfolding hop_channel
-hop_low c q h = cond-true _ _ _ (le-leb _ _ h)
-
-pub hop_high : (c : Channel) (q : Ways) → 999996 < c.capacity → hop_channel c q ≡ c
-unfolding hop_channel
-hop_high c q h = cond-false _ _ _ (lt-leb _ _ h)
 
 pub extended_sound : (c : Channel) (q : Ways) → Sound c → c.capacity ≤ 999996 → ((y : Way) → length (queued q y) ≤ 4) → ((y : Way) → AllByRecursion IsFrame (queued q y))
     → Sound (extended c q)
@@ -61,23 +52,16 @@ extended_sound c q s h k a =
       frames = λ y. rw behind-queued (All-append IsFrame (waiting c y) (queued q y) (s.frames y) (a y));
     }
 
-pub hop_sound : (c : Channel) (q : Ways) → Sound c → ((y : Way) → length (queued q y) ≤ 4) → ((y : Way) → AllByRecursion IsFrame (queued q y)) → Sound (hop_channel c q)
-hop_sound c q s k a =
-    ⊎_elim
-    (λ h. subst Sound (sym (hop_high c q h)) s)
-    (λ h. subst Sound (sym (hop_low c q h)) (extended_sound c q s h k a))
-    (cases_lt 999996 c.capacity)
-
-abbrev pub slot_means : Bool → (a b : List Frame) → Rings → length a ≡ 8 → length b ≡ 8 → SoundChannel
-slot_means is_open a b r e d =
+abbrev pub slot_means : Bool → Lanes 8 → SoundChannel
+slot_means is_open lanes =
     record {
-      channel = slot_channel is_open a b r;
-      sound = record { least = omega arith; most = omega arith; within = ways_within a b r 8 e d; frames = ways_sized a b r };
+      channel = slot_channel is_open lanes;
+      sound = record { least = omega arith; most = omega arith; within = ways_within lanes; frames = ways_sized lanes };
     }
 
-abbrev pub hop_means : SoundChannel → (a b : List Frame) → Rings → length a ≡ 4 → length b ≡ 4 → SoundChannel
-hop_means lower a b r e d =
+abbrev pub hop_means : (lower : SoundChannel) → Lanes 4 → lower.channel.capacity ≤ 999996 → SoundChannel
+hop_means lower lanes low =
     record {
-      channel = hop_channel lower.channel (ways_of a b r);
-      sound = hop_sound lower.channel (ways_of a b r) lower.sound (ways_within a b r 4 e d) (ways_sized a b r);
+      channel = extended lower.channel (ways_of lanes);
+      sound = extended_sound lower.channel (ways_of lanes) lower.sound low (ways_within lanes) (ways_sized lanes);
     }

@@ -1,13 +1,13 @@
 // The hop: a layer over any link that holds four more frames each way.
 // Its waiting frames are the lower link's followed by its own.
-ghost use Rattle.std.specs.Prelude.{◌≡◌, length, is_ok, MatchResult, nat_le, nat_lt};
+ghost use Rattle.std.specs.Prelude.{◌≡◌, ◌≤◌, length, is_ok, MatchResult, nat_le, nat_lt};
 ghost use Rattle.refusal.specs.declared.Refusal.TheVariants.{Measure};
 ghost use Rattle.link.specs.Channel.{waiting, nothing};
-ghost use Rattle.link.specs.Makes.{ways_of, extended, hop_channel, Shifted};
+ghost use Rattle.link.specs.Makes.{ways_of, extended, Shifted};
 ghost use Rattle.link.specs.Soundness.{hop_means};
 
 use crate::frame::Frame;
-use crate::rings::Rings;
+use crate::lanes::Lanes;
 use crate::{Link, LinkFault, Way};
 use refusal::Refusal;
 
@@ -17,13 +17,11 @@ const PLACES: usize = 4;
 const MOST_BELOW: usize = 999_996;
 
 #[derive(Drop)]
-pub struct Hop<L> {
+pub struct Hop<L: Link> {
     lower: L,
-    ahead: [Frame; 4],
-    back: [Frame; 4],
-    rings: Rings,
-    ghost four: { length ahead ≡ 4 },
-    ghost four_back: { length back ≡ 4 },
+    lanes: Lanes<PLACES>,
+    // No call changes what a link's capacity is.
+    ghost low: { (L.Link.means lower).channel.capacity ≤ 999996 },
 }
 
 // No hop was made: why, and the link that was to be below it.
@@ -36,7 +34,7 @@ pub struct NotMade<L> {
 impl<L: Link> Hop<L> {
     pub fn new(lower: L) -> Result<Hop<L>, NotMade<L>>
         ensures when { is_ok result ≡ nat_le (L.Link.means lower).channel.capacity 999996 }
-        ensures made { MatchResult result (λ h. (h.lower ≡ lower) × (hop_channel (L.Link.means lower).channel (ways_of h.ahead h.back h.rings) ≡ extended (L.Link.means lower).channel nothing)) (λ e. (e.refusal ≡ Measure) × (e.lower ≡ lower)) }
+        ensures made { MatchResult result (λ h. (h.lower ≡ lower) × (extended (L.Link.means lower).channel (ways_of h.lanes) ≡ extended (L.Link.means lower).channel nothing)) (λ e. (e.refusal ≡ Measure) × (e.lower ≡ lower)) }
     {
         if lower.capacity() > MOST_BELOW {
             return Err(NotMade {
@@ -46,9 +44,7 @@ impl<L: Link> Hop<L> {
         }
         Ok(Hop {
             lower,
-            ahead: [Frame::blank(); PLACES],
-            back: [Frame::blank(); PLACES],
-            rings: Rings::new(),
+            lanes: Lanes::new(),
         })
     }
 
@@ -56,20 +52,8 @@ impl<L: Link> Hop<L> {
     pub fn into_lower(self) -> L
         ensures { result ≡ self.lower }
     {
-        let Hop {
-            lower,
-            ahead: _,
-            back: _,
-            rings: _,
-        } = self;
+        let Hop { lower, lanes: _ } = self;
         lower
-    }
-
-    // No hop is made over so large a link: if one were, it would only pass its calls on.
-    fn passes(&self) -> bool
-        ensures { result ≡ nat_lt 999996 (L.Link.means self.now.lower).channel.capacity }
-    {
-        self.lower.capacity() > MOST_BELOW
     }
 
     // Whether the lower link has room.
@@ -79,78 +63,64 @@ impl<L: Link> Hop<L> {
         self.lower.count(way) < self.lower.capacity()
     }
 
-    // The oldest of its own goes to the lower link: what waits stays the same.
+    // Where its own places are full and the lower link has room, the oldest of its own goes there. What waits stays the same,
+    // while the link is open: no such send is refused then.
+    #[tactic(auto, using(crate::proofs::Sends::sent_capacity))]
     fn shift(&mut self, way: Way)
-        ensures { Shifted (L.Link.means self.old.lower).channel (ways_of self.old.ahead self.old.back self.old.rings) way (L.Link.means self.new.lower).channel (ways_of self.new.ahead self.new.back self.new.rings) }
+        ensures { Shifted (L.Link.means self.old.lower).channel (ways_of self.old.lanes) way (L.Link.means self.new.lower).channel (ways_of self.new.lanes) }
     {
-        if let Some(frame) = self.rings.take(&self.ahead, &self.back, way) {
+        if self.lanes.count(way) < PLACES || !self.lower_takes(way) {
+            return;
+        }
+        if let Some(frame) = self.lanes.take(way) {
             let _ = self.lower.send(way, frame.bytes());
         }
     }
 }
 
 impl<L: Link> Link for Hop<L> {
-    ghost means = { λ s. hop_means (L.Link.means s.lower) s.ahead s.back s.rings s.four s.four_back };
+    ghost means = { λ s. hop_means (L.Link.means s.lower) s.lanes s.low };
 
     fn is_open(&self) -> bool {
         self.lower.is_open()
     }
 
     fn capacity(&self) -> usize {
-        let below = self.lower.capacity();
-        if self.passes() { below } else { below + PLACES }
+        self.lower.capacity() + PLACES
     }
 
     fn count(&self, way: Way) -> usize {
-        let below = self.lower.count(way);
-        if self.passes() {
-            below
-        } else {
-            below + self.rings.count(&self.ahead, &self.back, way)
-        }
+        self.lower.count(way) + self.lanes.count(way)
     }
 
+    #[tactic(auto, using(crate::proofs::Sends::sent_capacity), unfolding(crate::specs::Channel::send_answer, crate::specs::Channel::sent))]
     fn send(&mut self, way: Way, frame: &[u8]) -> Result<(), LinkFault> {
-        if self.passes() {
-            return self.lower.send(way, frame);
-        }
-        let below = self.lower_takes(way);
         // Straight on while nothing of its own waits.
-        if below && self.rings.count(&self.ahead, &self.back, way) == 0 {
+        if self.lower_takes(way) && self.lanes.count(way) == 0 {
             return self.lower.send(way, frame);
         }
         let frame = Frame::new(frame)?;
         if !self.lower.is_open() {
             return Err(LinkFault::Closed);
         }
-        if self.rings.put(&mut self.ahead, &mut self.back, way, frame) {
-            return Ok(());
-        }
-        if !below {
-            return Err(LinkFault::Full);
-        }
         self.shift(way);
-        let _ = self.rings.put(&mut self.ahead, &mut self.back, way, frame);
-        Ok(())
+        self.lanes.put(way, frame)
     }
 
     fn take(&mut self, way: Way) -> Option<Frame> {
-        if self.passes() {
-            return self.lower.take(way);
-        }
         if self.lower.count(way) > 0 {
             return self.lower.take(way);
         }
-        self.rings.take(&self.ahead, &self.back, way)
+        self.lanes.take(way)
     }
 
     fn open(&mut self) {
         self.lower.open();
-        self.rings.clear();
+        self.lanes.clear();
     }
 
     fn cut(&mut self) {
         self.lower.cut();
-        self.rings.clear();
+        self.lanes.clear();
     }
 }

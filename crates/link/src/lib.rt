@@ -3,7 +3,7 @@
 
 pub mod frame;
 pub mod hop;
-mod rings;
+mod lanes;
 pub mod slot;
 
 ghost use Rattle.std.specs.Prelude.{◌≡◌, true, false, length};

@@ -10,6 +10,8 @@ mod tests {
     use loopback::self_test;
     use queue::Ring;
     use refusal::Refusal;
+    use std::alloc::Global;
+    use std::collections::VecDeque;
     use std::process::Abort;
     use std::test::Fail;
 
@@ -26,68 +28,71 @@ mod tests {
         Cut,
     }
 
-    #[derive(Clone, Copy, PartialEq, Eq, Debug)]
-    enum Answer {
-        Done,
-        Refused(LinkFault),
-        // A frame by its length and its first byte.
-        Took(usize, u8),
-    }
+    // The frame that was taken, by its length and its first byte; none where nothing came, or nothing was taken.
+    type Answer = Result<Option<(usize, u8)>, LinkFault>;
 
     fn run<L: Link>(link: &mut L, op: Op) -> Answer {
         match op {
-            Op::Send(way, len, fill) => {
-                let bytes = [fill; 540];
-                match link.send(way, &bytes[0..len.min(540)]) {
-                    Ok(()) => Answer::Done,
-                    Err(fault) => Answer::Refused(fault),
-                }
-            }
-            Op::Take(way) => seen(link.take(way)),
-            Op::Open => {
-                link.open();
-                Answer::Done
-            }
-            Op::Cut => {
-                link.cut();
-                Answer::Done
-            }
+            Op::Send(way, len, fill) => link.send(way, &[fill; 540][..len.min(540)])?,
+            Op::Take(way) => return Ok(seen(link.take(way))),
+            Op::Open => link.open(),
+            Op::Cut => link.cut(),
         }
+        Ok(None)
     }
 
-    fn seen(frame: Option<Frame>) -> Answer {
-        let Some(frame) = frame else {
-            return Answer::Done;
-        };
-        match frame.bytes() {
-            [] => Answer::Done,
-            [first, ..] => Answer::Took(frame.bytes().len(), *first),
-        }
+    fn seen(frame: Option<Frame>) -> Option<(usize, u8)> {
+        let frame = frame?;
+        let bytes = frame.bytes();
+        Some((bytes.len(), *bytes.first()?))
     }
 
-    // The model: two plain lists, of twelve frames at most.
+    // The model: a plain list for each way, of twelve frames at most.
     #[derive(Drop)]
     struct Lists {
         on: bool,
-        ahead: Vec<(usize, u8)>,
-        back: Vec<(usize, u8)>,
+        ahead: VecDeque<(usize, u8)>,
+        back: VecDeque<(usize, u8)>,
     }
 
     impl Lists {
+        fn new(heap: Global) -> Lists {
+            Lists {
+                on: false,
+                ahead: VecDeque::new(heap),
+                back: VecDeque::new(heap),
+            }
+        }
+
         fn run(&mut self, op: Op) -> Result<Answer, Fail> {
             match op {
-                Op::Send(Way::ZeroToOne, len, fill) => append(&mut self.ahead, self.on, len, fill),
-                Op::Send(Way::OneToZero, len, fill) => append(&mut self.back, self.on, len, fill),
-                Op::Take(Way::ZeroToOne) => Ok(remove(&mut self.ahead)),
-                Op::Take(Way::OneToZero) => Ok(remove(&mut self.back)),
-                Op::Open => {
-                    self.empty(true);
-                    Ok(Answer::Done)
-                }
-                Op::Cut => {
-                    self.empty(false);
-                    Ok(Answer::Done)
-                }
+                Op::Send(way, len, fill) => return self.send(way, len, fill),
+                Op::Take(way) => return Ok(Ok(self.list(way).pop_front())),
+                Op::Open => self.empty(true),
+                Op::Cut => self.empty(false),
+            }
+            Ok(Ok(None))
+        }
+
+        fn send(&mut self, way: Way, len: usize, fill: u8) -> Result<Answer, Fail> {
+            if !(1..=537).contains(&len) {
+                return Ok(Err(LinkFault::Size));
+            }
+            if !self.on {
+                return Ok(Err(LinkFault::Closed));
+            }
+            let list = self.list(way);
+            if list.len() >= 12 {
+                return Ok(Err(LinkFault::Full));
+            }
+            list.push_back((len, fill))?;
+            Ok(Ok(None))
+        }
+
+        fn list(&mut self, way: Way) -> &mut VecDeque<(usize, u8)> {
+            match way {
+                Way::ZeroToOne => &mut self.ahead,
+                Way::OneToZero => &mut self.back,
             }
         }
 
@@ -96,28 +101,6 @@ mod tests {
             self.ahead.clear();
             self.back.clear();
         }
-    }
-
-    fn append(list: &mut Vec<(usize, u8)>, on: bool, len: usize, fill: u8) -> Result<Answer, Fail> {
-        if len < 1 || len > 537 {
-            return Ok(Answer::Refused(LinkFault::Size));
-        }
-        if !on {
-            return Ok(Answer::Refused(LinkFault::Closed));
-        }
-        if list.len() >= 12 {
-            return Ok(Answer::Refused(LinkFault::Full));
-        }
-        list.push((len, fill))?;
-        Ok(Answer::Done)
-    }
-
-    fn remove(list: &mut Vec<(usize, u8)>) -> Answer {
-        if list.is_empty() {
-            return Answer::Done;
-        }
-        let (len, fill) = list.remove(0);
-        Answer::Took(len, fill)
     }
 
     // The same operations on a link of capacity 12 and on the lists: the same answers, and as many frames wait.
@@ -140,11 +123,7 @@ mod tests {
         let Ok(mut hop) = Hop::new(SlotLink::new()) else {
             return Err(Fail::new("no hop"));
         };
-        let mut lists = Lists {
-            on: false,
-            ahead: Vec::new(rt.alloc()),
-            back: Vec::new(rt.alloc()),
-        };
+        let mut lists = Lists::new(rt.alloc());
         assert_eq!(rt; hop.capacity(), 12);
         agree(
             &rt,
@@ -222,7 +201,7 @@ mod tests {
         let mut one = two.into_lower();
         assert_eq!(rt; one.count(AHEAD), 12);
         for i in 0..12u8 {
-            assert_eq!(rt; seen(one.take(AHEAD)), Answer::Took(1, i));
+            assert_eq!(rt; seen(one.take(AHEAD)), Some((1, i)));
         }
         assert_eq!(rt; one.count(AHEAD), 0);
         Ok(())
@@ -230,10 +209,9 @@ mod tests {
 
     // The number of the refusal, 0 for none.
     fn refused(answer: Result<(), LinkFault>) -> u8 {
-        match answer {
-            Ok(()) => 0,
-            Err(fault) => Refusal::from(fault).number(),
-        }
+        answer
+            .err()
+            .map_or(0, |fault| Refusal::from(fault).number())
     }
 
     #[test]

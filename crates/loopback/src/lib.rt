@@ -11,6 +11,7 @@ use refusal::Refusal;
 
 // Opens the link, sends both frames, and takes them again: whether they came as they were sent, and nothing after them.
 // It is proved from what every link promises that the answer is never `Ok(false)`.
+#[tactic(auto, unfolding(link::specs::Channel::send_answer, link::specs::Channel::sent))]
 pub fn self_test<L: Link>(
     link: &mut L,
     way: Way,
@@ -31,8 +32,5 @@ pub fn self_test<L: Link>(
 fn holds(taken: Option<Frame>, bytes: &[u8]) -> bool
     ensures { framed taken ≡ Some bytes.now → result ≡ true }
 {
-    match taken {
-        Some(frame) => frame.bytes() == bytes,
-        None => false,
-    }
+    taken.is_some_and(|frame| frame.bytes() == bytes)
 }

@@ -1,21 +1,12 @@
-use Rattle.std.proofs.Common.{ap, ◌∙◌}
-use Rattle.link.specs.Channel.{sent}
-use Rattle.link.specs.Makes.{ways_of, bytes_of}
-use Rattle.link.specs.Soundness.{frame_sized}
-use Rattle.link.proofs.Hops.{shifted, shifted_fewer}
+use Rattle.std.proofs.Common.{sym, rules}
+use Rattle.std.proofs.lemmas.Bool.{ltb-true}
+use Rattle.link.specs.Makes.{ways_of}
+use Rattle.link.specs.Soundness.{ways_within}
+use Rattle.link.proofs.Hops.{shifted}
 use Rattle.link.proofs.hop.Hop.shift.Goals as goal
 
 pub returns-in-Some : goal.returns-in-Some
 returns-in-Some g c =
     let s = c.args.self.now in
-    let y = c.args.way in
-    let lower = (g.L.Link.means s.lower).channel in
-    let own = ways_of s.ahead s.back s.rings in
-    let f = c.in-Some.frame in
-    let was = c.in-Some.ensures.answer in
-    let left = c.take.ensures.after in
-    let sends = c.send.ensures.after ∙ ap (sent lower y) c.bytes.ensures in
-    record {
-      same = λ o l. shifted lower _ _ own y (bytes_of f) was left (frame_sized f) o l sends;
-      fewer = λ _. shifted_fewer _ own y (bytes_of f) was left;
-    }
+    let room = ltb-true _ _ (sym c.if-not-lower_takes.ensures) in
+    shifted _ _ _ (ways_of s.lanes) c.args.way c.in-Some.frame _ room (ways_within s.lanes c.args.way) c.in-Some.ensures.answer c.take.ensures.after (search rules) c.send.ensures.after
