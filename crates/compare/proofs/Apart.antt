@@ -1,5 +1,5 @@
 -- Two nodes that both went on from one generation are a split brain.
-use Rattle.std.proofs.Common.{◌≡◌, true, false, None, Err, refl, ap, arith, ne_eqb}
+use Rattle.std.proofs.Common.{◌≡◌, true, false, None, Ok, Err, refl, ap, arith, ne_eqb}
 use Rattle.std.proofs.lemmas.Bool.Decides.{nat_tests}
 use Rattle.refusal.specs.declared.Refusal.TheVariants.{Split}
 use Rattle.compare.specs.declared.side.Side.{Side}
@@ -8,7 +8,7 @@ use Rattle.compare.specs.declared.Node.{Node}
 use Rattle.compare.specs.declared.Word.TheVariants.{NoOne}
 use Rattle.compare.specs.Sides.{blank, same_current, tracks, remembers, same_bitmap}
 use Rattle.compare.specs.Rules.{rule_finds, deciding_rule}
-use Rattle.compare.specs.Meeting.{tested, settled, answer_to, comparison}
+use Rattle.compare.specs.Meeting.{tested, settled, answer_to, onward, comparison}
 use Rattle.compare.specs.Laws.{BothWentOn}
 
 decided_by_bitmap : (m p : Side) → BothWentOn m p → deciding_rule m p ≡ SameBitmap
@@ -24,4 +24,4 @@ decided_by_bitmap m p h =
     rw (mine-begun, peer-begun, current, mine-tracks, peer-tracks, mine-remembers, peer-remembers, bitmap) refl
 
 pub went_on_apart : (m p : Side) (asking : Node) → BothWentOn m p → comparison m p asking NoOne ≡ Err Split
-went_on_apart m p asking h = ap (λ r. answer_to (settled None m p (tested m p (rule_finds r m p)))) (decided_by_bitmap m p h)
+went_on_apart m p asking h = ap (λ r. onward (onward (onward (rule_finds r m p) (tested m p)) (λ f. Ok (settled None m p f))) answer_to) (decided_by_bitmap m p h)

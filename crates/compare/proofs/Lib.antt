@@ -1,4 +1,3 @@
-mod FirstFit
 mod Shared
 mod Mirror
 mod Harm

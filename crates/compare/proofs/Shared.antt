@@ -1,5 +1,6 @@
 -- The tests that do not care which end asks.
-use Rattle.std.proofs.Common.{◌≡◌, ℕ, Bool, true, false, not, ◌&&◌, ◌||◌, eqb, refl, arith}
+use Rattle.std.proofs.Common.{◌≡◌, ℕ, Bool, not, ◌&&◌, ◌||◌, eqb, arith}
+use Rattle.std.proofs.Math.Bool.{and-or_distrib_left}
 use Rattle.std.proofs.lemmas.Bool.Decides.{nat_tests}
 use Rattle.compare.specs.declared.side.Side.{Side}
 use Rattle.compare.specs.Sides.{same_bitmap, left_behind, shares_ancestor}
@@ -20,12 +21,8 @@ common g h = not (eqb g 0) && eqb g h
 common_comm : (g h : ℕ) → common g h ≡ common h g
 common_comm g h = grind (arith, nat_tests)
 
-distributed : (x a b c : Bool) → (x && (a || (b || c))) ≡ ((x && a) || ((x && b) || (x && c)))
-distributed true a b c = refl
-distributed false a b c = refl
-
 left_as_first : (g : ℕ) (a : Side) → left_behind g a ≡ some a (λ h. common g h)
-left_as_first g a = distributed (not (eqb g 0)) (eqb g a.bitmap) (eqb g a.recent) (eqb g a.older)
+left_as_first g a = simp and-or_distrib_left
 
 left_as_second : (h : ℕ) (a : Side) → left_behind h a ≡ some a (λ g. common g h)
 left_as_second h a = rw (common_comm a.bitmap h, common_comm a.recent h, common_comm a.older h) (left_as_first h a)

@@ -1,3 +1,4 @@
+pub mod Nodes
 pub mod Sides
 pub mod Rules
 pub mod Meeting

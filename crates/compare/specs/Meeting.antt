@@ -11,7 +11,7 @@ use Rattle.compare.specs.declared.finding.End.{End}
 use Rattle.compare.specs.declared.finding.End.TheVariants.{Here, There}
 use Rattle.compare.specs.declared.finding.Amount.TheVariants.{Bits, Full}
 use Rattle.compare.specs.declared.finding.Finding.{Finding}
-use Rattle.compare.specs.declared.finding.Finding.TheVariants.{NoResync, Resync, Split, Refused}
+use Rattle.compare.specs.declared.finding.Finding.TheVariants.{NoResync, Resync, Split}
 use Rattle.compare.specs.Sides.{is_primary, can_take}
 use Rattle.compare.specs.Rules.{rule_finds, deciding_rule}
 
@@ -24,14 +24,13 @@ side_at Here m p = m
 side_at There m p = p
 
 -- an inconsistent node gives nothing, and a Primary's blocks are not written over
-abbrev pub unless_barred : Side → Side → Finding → Finding
-unless_barred source target f = cond source.consistent (cond (is_primary target.role) (Split Full) f) (Refused NoSource)
+abbrev pub unless_barred : Side → Side → Finding → Result Finding Refusal
+unless_barred source target f = cond source.consistent (Ok (cond (is_primary target.role) (Split Full) f)) (Err NoSource)
 
-abbrev pub tested : Side → Side → Finding → Finding
+abbrev pub tested : Side → Side → Finding → Result Finding Refusal
 tested m p (Resync s a) = unless_barred (side_at s m p) (side_at (opposite s) m p) (Resync s a)
-tested m p NoResync = NoResync
-tested m p (Split a) = Split a
-tested m p (Refused r) = Refused r
+tested m p NoResync = Ok NoResync
+tested m p (Split a) = Ok (Split a)
 
 -- at which end a node is, seen from the asking node
 abbrev pub end_of : Node → Node → End
@@ -57,7 +56,6 @@ settled (Some t) m p (Split a) = cond (can_take (side_at t m p) (side_at (opposi
 settled None m p (Split a) = Split a
 settled e m p NoResync = NoResync
 settled e m p (Resync s a) = Resync s a
-settled e m p (Refused r) = Refused r
 
 -- plus at the source, minus at the target: 1 by bits, 2 in full
 abbrev pub answer_to : Finding → Result ℤ Refusal
@@ -67,10 +65,15 @@ answer_to (Resync Here Full) = Ok (pos 2)
 answer_to (Resync There Bits) = Ok (negsuc 0)
 answer_to (Resync There Full) = Ok (negsuc 1)
 answer_to (Split a) = Err SplitBrain
-answer_to (Refused r) = Err r
 
-abbrev pub meeting : Side → Side → Node → Word → Finding
-meeting m p asking word = settled (gives_way word asking m p) m p (tested m p (rule_finds (deciding_rule m p) m p))
+-- what follows a finding, unless it was refused
+abbrev pub onward : {A : Type 0} → Result Finding Refusal → (Finding → Result A Refusal) → Result A Refusal
+onward (Ok f) next = next f
+onward (Err r) next = Err r
+
+abbrev pub meeting : Side → Side → Node → Word → Result Finding Refusal
+meeting m p asking word =
+    onward (onward (rule_finds (deciding_rule m p) m p) (tested m p)) (λ f. Ok (settled (gives_way word asking m p) m p f))
 
 abbrev pub comparison : Side → Side → Node → Word → Result ℤ Refusal
-comparison m p asking word = answer_to (meeting m p asking word)
+comparison m p asking word = onward (meeting m p asking word) answer_to

@@ -1,5 +1,5 @@
 -- The rules by which two nodes that meet find out who copies to whom: the first that fits decides.
-use Rattle.std.specs.Prelude.{ℕ, Bool, true, false, cond, not, ◌&&◌, ◌||◌, List, [], ◌∷◌, codes}
+use Rattle.std.specs.Prelude.{ℕ, Bool, true, false, not, ◌&&◌, ◌||◌, List, [], ◌∷◌, codes, find, unwrap_or, Ok, Err, Result}
 use Rattle.compare.specs.declared.side.Side.{Side}
 use Rattle.compare.specs.declared.rule.Rule.{Rule}
 use Rattle.compare.specs.declared.rule.Rule.TheVariants.{BothBlank, OneBlank, BothInconsistent, OneInconsistent, SameGeneration, InBitmap, InHistory, SameBitmap, SharedAncestor, NothingShared}
@@ -7,7 +7,8 @@ use Rattle.compare.specs.declared.finding.End.TheVariants.{Here, There}
 use Rattle.compare.specs.declared.finding.Amount.{Amount}
 use Rattle.compare.specs.declared.finding.Amount.TheVariants.{Bits, Full}
 use Rattle.compare.specs.declared.finding.Finding.{Finding}
-use Rattle.compare.specs.declared.finding.Finding.TheVariants.{NoResync, Resync, Split, Refused}
+use Rattle.compare.specs.declared.finding.Finding.TheVariants.{NoResync, Resync, Split}
+use Rattle.refusal.specs.declared.Refusal.{Refusal}
 use Rattle.refusal.specs.declared.Refusal.TheVariants.{Unrelated, Blank, NoSource}
 use Rattle.compare.specs.Sides.{blank, same_current, tracks, remembers, same_bitmap, shares_ancestor}
 
@@ -32,27 +33,23 @@ source_where false true a = Resync There a
 source_where false false a = NoResync
 
 -- what a rule finds where it decides
-abbrev pub rule_finds : Rule → Side → Side → Finding
-rule_finds BothBlank m p = Refused Blank
-rule_finds OneBlank m p = source_where (blank p) (blank m) Full
-rule_finds BothInconsistent m p = Refused NoSource
-rule_finds OneInconsistent m p = source_where m.consistent p.consistent Bits
-rule_finds SameGeneration m p = source_where m.primary p.primary Bits
-rule_finds InBitmap m p = source_where (tracks m p) (tracks p m) Bits
-rule_finds InHistory m p = source_where (remembers m p) (remembers p m) Full
-rule_finds SameBitmap m p = Split Bits
-rule_finds SharedAncestor m p = Split Full
-rule_finds NothingShared m p = Refused Unrelated
-
-abbrev pub first_that_fits : List Rule → Side → Side → Rule
-first_that_fits [] m p = NothingShared
-first_that_fits (r ∷ rs) m p = cond (rule_fits r m p) r (first_that_fits rs m p)
+abbrev pub rule_finds : Rule → Side → Side → Result Finding Refusal
+rule_finds BothBlank m p = Err Blank
+rule_finds OneBlank m p = Ok (source_where (blank p) (blank m) Full)
+rule_finds BothInconsistent m p = Err NoSource
+rule_finds OneInconsistent m p = Ok (source_where m.consistent p.consistent Bits)
+rule_finds SameGeneration m p = Ok (source_where m.primary p.primary Bits)
+rule_finds InBitmap m p = Ok (source_where (tracks m p) (tracks p m) Bits)
+rule_finds InHistory m p = Ok (source_where (remembers m p) (remembers p m) Full)
+rule_finds SameBitmap m p = Ok (Split Bits)
+rule_finds SharedAncestor m p = Ok (Split Full)
+rule_finds NothingShared m p = Err Unrelated
 
 abbrev pub in_order : List Rule
 in_order = BothBlank ∷ (OneBlank ∷ (BothInconsistent ∷ (OneInconsistent ∷ (SameGeneration ∷ (InBitmap ∷ (InHistory ∷ (SameBitmap ∷ (SharedAncestor ∷ []))))))))
 
 abbrev pub deciding_rule : Side → Side → Rule
-deciding_rule m p = first_that_fits in_order m p
+deciding_rule m p = unwrap_or (find (λ r. rule_fits r m p) in_order) NothingShared
 
 -- a rule's name, for a person
 abbrev pub name_of : Rule → List ℕ

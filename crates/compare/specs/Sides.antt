@@ -8,6 +8,10 @@ abbrev pub is_primary : Role → Bool
 is_primary Primary = true
 is_primary Secondary = false
 
+abbrev pub role_where : Bool → Role
+role_where true = Primary
+role_where false = Secondary
+
 -- the card never held a generation
 abbrev pub blank : Side → Bool
 blank a = a.current == 0

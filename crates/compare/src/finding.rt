@@ -23,7 +23,6 @@ pub(crate) enum Finding {
     Resync { source: End, amount: Amount },
     // The amount is what a node that gives way takes.
     Split { amount: Amount },
-    Refused(Refusal),
 }
 
 impl End {
@@ -47,21 +46,21 @@ impl End {
 }
 
 impl Finding {
-    fn unless_barred(self, source: Side, target: Side) -> Finding
+    fn unless_barred(self, source: Side, target: Side) -> Result<Finding, Refusal>
         ensures { result ≡ unless_barred source target self }
     {
         if !source.consistent {
-            return Finding::Refused(Refusal::NoSource);
+            return Err(Refusal::NoSource);
         }
         if target.role.is_primary() {
-            return Finding::Split {
+            return Ok(Finding::Split {
                 amount: Amount::Full,
-            };
+            });
         }
-        self
+        Ok(self)
     }
 
-    pub(crate) fn tested(self, mine: Side, peer: Side) -> Finding
+    pub(crate) fn tested(self, mine: Side, peer: Side) -> Result<Finding, Refusal>
         ensures { result ≡ tested mine peer self }
     {
         match self {
@@ -69,7 +68,7 @@ impl Finding {
                 let target = source.opposite();
                 self.unless_barred(source.side(mine, peer), target.side(mine, peer))
             }
-            _ => self,
+            _ => Ok(self),
         }
     }
 
@@ -77,10 +76,7 @@ impl Finding {
     pub(crate) fn settled(self, gives_way: Option<End>, mine: Side, peer: Side) -> Finding
         ensures { result ≡ settled gives_way mine peer self }
     {
-        let Finding::Split { amount } = self else {
-            return self;
-        };
-        let Some(target) = gives_way else {
+        let (Finding::Split { amount }, Some(target)) = (self, gives_way) else {
             return self;
         };
         let source = target.opposite();
@@ -91,6 +87,7 @@ impl Finding {
         }
     }
 
+    // A method and no TryFrom, since it stands last in a chain.
     pub(crate) fn answer(self) -> Result<i32, Refusal>
         ensures { result ≡ answer_to self }
     {
@@ -103,7 +100,6 @@ impl Finding {
                 (End::There, Amount::Full) => Ok(-2),
             },
             Finding::Split { .. } => Err(Refusal::Split),
-            Finding::Refused(refusal) => Err(refusal),
         }
     }
 }

@@ -1,12 +1,13 @@
 // The rules: the first that fits decides.
-ghost use Rattle.std.specs.Prelude.{◌≡◌};
+ghost use Rattle.std.specs.Prelude.{◌≡◌, Some, find};
 ghost use Rattle.compare.specs.Rules.{rule_fits, rule_finds, source_where, deciding_rule, name_of};
 
 use crate::finding::{Amount, End, Finding};
 use crate::side::Side;
 use refusal::Refusal;
+use std::fmt;
 
-#[derive(Clone, Copy)]
+#[derive(Clone, Copy, PartialEq, Eq, Debug)]
 pub enum Rule {
     BothBlank,
     OneBlank,
@@ -58,7 +59,11 @@ impl Rule {
             Rule::NothingShared => "nothing in common",
         }
     }
+}
 
+// The two sides stay two parameters, as the definitions and the two public calls take them: with a struct of both, each of these
+// functions would first take it apart.
+impl Rule {
     fn fits(self, mine: Side, peer: Side) -> bool
         ensures { result ≡ rule_fits self mine peer }
     {
@@ -80,29 +85,41 @@ impl Rule {
         }
     }
 
-    pub(crate) fn finds(self, mine: Side, peer: Side) -> Finding
+    pub(crate) fn finds(self, mine: Side, peer: Side) -> Result<Finding, Refusal>
         ensures { result ≡ rule_finds self mine peer }
     {
         match self {
-            Rule::BothBlank => Finding::Refused(Refusal::Blank),
-            Rule::OneBlank => source_where(peer.is_blank(), mine.is_blank(), Amount::Full),
-            Rule::BothInconsistent => Finding::Refused(Refusal::NoSource),
-            Rule::OneInconsistent => source_where(mine.consistent, peer.consistent, Amount::Bits),
-            Rule::SameGeneration => source_where(mine.primary, peer.primary, Amount::Bits),
-            Rule::InBitmap => source_where(mine.tracks(peer), peer.tracks(mine), Amount::Bits),
-            Rule::InHistory => source_where(
+            Rule::BothBlank => Err(Refusal::Blank),
+            Rule::OneBlank => Ok(source_where(peer.is_blank(), mine.is_blank(), Amount::Full)),
+            Rule::BothInconsistent => Err(Refusal::NoSource),
+            Rule::OneInconsistent => Ok(source_where(
+                mine.consistent,
+                peer.consistent,
+                Amount::Bits,
+            )),
+            Rule::SameGeneration => Ok(source_where(mine.primary, peer.primary, Amount::Bits)),
+            Rule::InBitmap => Ok(source_where(mine.tracks(peer), peer.tracks(mine), Amount::Bits)),
+            Rule::InHistory => Ok(source_where(
                 mine.remembers(peer),
                 peer.remembers(mine),
                 Amount::Full,
-            ),
-            Rule::SameBitmap => Finding::Split {
+            )),
+            Rule::SameBitmap => Ok(Finding::Split {
                 amount: Amount::Bits,
-            },
-            Rule::SharedAncestor => Finding::Split {
+            }),
+            Rule::SharedAncestor => Ok(Finding::Split {
                 amount: Amount::Full,
-            },
-            Rule::NothingShared => Finding::Refused(Refusal::Unrelated),
+            }),
+            Rule::NothingShared => Err(Refusal::Unrelated),
         }
+    }
+}
+
+impl fmt::Display for Rule {
+    ghost output = { λ rule. Some (name_of rule) };
+
+    fn fmt<W: fmt::Write>(&self, f: &mut fmt::Formatter<W>) -> fmt::Result {
+        f.write_str(self.name())
     }
 }
 
@@ -118,13 +135,15 @@ const IN_ORDER: [Rule; 9] = [
     Rule::SharedAncestor,
 ];
 
+// The first of the rules that fits.
+fn first_that_fits(rules: &[Rule], mine: Side, peer: Side) -> Option<Rule>
+    ensures { result ≡ find (λ r. rule_fits r mine peer) rules.now }
+{
+    rules.iter().copied().find(|rule| rule.fits(mine, peer))
+}
+
 pub fn deciding_rule(mine: Side, peer: Side) -> Rule
     ensures { result ≡ deciding_rule mine peer }
 {
-    for rule in IN_ORDER {
-        if rule.fits(mine, peer) {
-            return rule;
-        }
-    }
-    Rule::NothingShared
+    first_that_fits(&IN_ORDER, mine, peer).unwrap_or(Rule::NothingShared)
 }

@@ -1,15 +1,15 @@
 // A node as its peer meets it: its generations and what stands beside them on its card.
 ghost use Rattle.std.specs.Prelude.{◌≡◌};
-ghost use Rattle.compare.specs.Sides.{blank, same_current, tracks, remembers, same_bitmap, left_behind, shares_ancestor, is_primary, can_take};
+ghost use Rattle.compare.specs.Sides.{blank, same_current, tracks, remembers, same_bitmap, left_behind, shares_ancestor, is_primary, role_where, can_take};
 
-#[derive(Clone, Copy)]
+#[derive(Clone, Copy, PartialEq, Eq, Debug)]
 pub enum Role {
     Primary,
     Secondary,
 }
 
-// The generations are identifiers; 0 is none.
-#[derive(Clone, Copy)]
+// The generations are identifiers; 0 is none, as a card and a frame have it.
+#[derive(Clone, Copy, PartialEq, Eq, Debug)]
 pub struct Side {
     pub current: u64,
     // The one since which the bitmap marks what was written.
@@ -25,14 +25,24 @@ pub struct Side {
     pub bits: u64,
 }
 
+impl From<bool> for Role {
+    ghost from_gives = { λ primary r. r ≡ role_where primary };
+
+    fn from(primary: bool) -> Role {
+        if primary {
+            Role::Primary
+        } else {
+            Role::Secondary
+        }
+    }
+}
+
 impl Role {
+    // Asked so often that it has a name.
     pub fn is_primary(self) -> bool
         ensures { result ≡ is_primary self }
     {
-        match self {
-            Role::Primary => true,
-            Role::Secondary => false,
-        }
+        self == Role::Primary
     }
 }
 
@@ -58,7 +68,7 @@ impl Side {
     pub(crate) fn remembers(self, other: Side) -> bool
         ensures { result ≡ remembers self other }
     {
-        other.current == self.recent || other.current == self.older
+        [self.recent, self.older].contains(&other.current)
     }
 
     pub(crate) fn same_bitmap(self, other: Side) -> bool
@@ -70,13 +80,13 @@ impl Side {
     fn left_behind(self, generation: u64) -> bool
         ensures { result ≡ left_behind generation self }
     {
-        generation != 0
-            && (generation == self.bitmap || generation == self.recent || generation == self.older)
+        generation != 0 && [self.bitmap, self.recent, self.older].contains(&generation)
     }
 
     pub(crate) fn shares_ancestor(self, other: Side) -> bool
         ensures { result ≡ shares_ancestor self other }
     {
+        // Written out: a chain over the three would need a function of its own.
         other.left_behind(self.bitmap)
             || other.left_behind(self.recent)
             || other.left_behind(self.older)

@@ -7,14 +7,15 @@ mod tests {
     use refusal::Refusal;
     use std::process::Abort;
 
-    // No direction is as large as a refusal's number, so a table holds both.
-    const SPLIT: i32 = 24;
+    type Answer = Result<i32, Refusal>;
 
-    const UNRELATED: i32 = 25;
+    const SPLIT: Answer = Err(Refusal::Split);
 
-    const BLANK: i32 = 26;
+    const UNRELATED: Answer = Err(Refusal::Unrelated);
 
-    const NO_SOURCE: i32 = 27;
+    const BLANK: Answer = Err(Refusal::Blank);
+
+    const NO_SOURCE: Answer = Err(Refusal::NoSource);
 
     const WORDS: [Word; 4] = [Word::NoOne, Word::NodeZero, Word::NodeOne, Word::FewerBits];
 
@@ -23,11 +24,11 @@ mod tests {
         one: Side,
         two: Side,
         // What node 0 is told, word by word, where its side is `one`; and where it is `two`.
-        at_one: [i32; 4],
-        at_two: [i32; 4],
+        at_one: [Answer; 4],
+        at_two: [Answer; 4],
     }
 
-    fn case(one: Side, two: Side, at_one: [i32; 4], at_two: [i32; 4]) -> Meeting {
+    fn case(one: Side, two: Side, at_one: [Answer; 4], at_two: [Answer; 4]) -> Meeting {
         Meeting {
             one,
             two,
@@ -78,41 +79,33 @@ mod tests {
         Side { bits, ..side }
     }
 
-    fn told(answer: Result<i32, Refusal>) -> i32 {
-        match answer {
-            Ok(direction) => direction,
-            Err(refusal) => i32::from(refusal.number()),
-        }
-    }
-
     // The same at the other end: a refusal is the same, a direction is the other one.
-    fn from_there(answer: i32) -> i32 {
-        match answer {
-            -2 => 2,
-            -1 => 1,
-            1 => -1,
-            2 => -2,
-            _ => answer,
-        }
+    fn from_there(answer: Answer) -> Answer {
+        answer.map(i32::wrapping_neg)
     }
 
-    fn meet(rt: &impl Abort, zero: Side, one: Side, expected: [i32; 4]) {
-        for (word, answer) in WORDS.iter().zip(expected.iter()) {
-            assert_eq!(rt; told(compare(zero, one, Node::Zero, *word)), *answer);
-            assert_eq!(rt;
-                told(compare(one, zero, Node::One, *word)),
-                from_there(*answer)
-            );
+    fn meet(rt: &impl Abort, zero: Side, one: Side, expected: [Answer; 4]) {
+        for (word, answer) in WORDS.into_iter().zip(expected) {
+            assert_eq!(rt; compare(zero, one, Node::Zero, word), answer);
+            assert_eq!(rt; compare(one, zero, Node::One, word), from_there(answer));
         }
     }
 
     fn decided_by(rt: &impl Abort, rule: Rule, cases: &[Meeting]) {
         for case in cases {
-            assert_eq!(rt; deciding_rule(case.one, case.two).name(), rule.name());
-            assert_eq!(rt; deciding_rule(case.two, case.one).name(), rule.name());
+            assert_eq!(rt; deciding_rule(case.one, case.two), rule);
+            assert_eq!(rt; deciding_rule(case.two, case.one), rule);
             meet(rt, case.one, case.two, case.at_one);
             meet(rt, case.two, case.one, case.at_two);
         }
+    }
+
+    #[test]
+    fn refused_by_number(rt: HostRuntime) {
+        assert_eq!(rt; Refusal::Split.number(), 24);
+        assert_eq!(rt; Refusal::Unrelated.number(), 25);
+        assert_eq!(rt; Refusal::Blank.number(), 26);
+        assert_eq!(rt; Refusal::NoSource.number(), 27);
     }
 
     #[test]
@@ -139,7 +132,7 @@ mod tests {
             &rt,
             Rule::OneBlank,
             &[
-                case(node(5, 0), node(0, 0), [2; 4], [-2; 4]),
+                case(node(5, 0), node(0, 0), [Ok(2); 4], [Ok(-2); 4]),
                 case(
                     inconsistent(node(5, 0)),
                     node(0, 0),
@@ -149,8 +142,8 @@ mod tests {
                 case(
                     node(5, 0),
                     in_use(node(0, 0)),
-                    [SPLIT, -2, SPLIT, SPLIT],
-                    [SPLIT, SPLIT, 2, 2],
+                    [SPLIT, Ok(-2), SPLIT, SPLIT],
+                    [SPLIT, SPLIT, Ok(2), Ok(2)],
                 ),
             ],
         );
@@ -190,12 +183,17 @@ mod tests {
             &rt,
             Rule::OneInconsistent,
             &[
-                case(node(5, 0), inconsistent(node(5, 0)), [1; 4], [-1; 4]),
+                case(
+                    node(5, 0),
+                    inconsistent(node(5, 0)),
+                    [Ok(1); 4],
+                    [Ok(-1); 4],
+                ),
                 case(
                     node(5, 0),
                     was_primary(inconsistent(node(5, 0))),
-                    [1; 4],
-                    [-1; 4],
+                    [Ok(1); 4],
+                    [Ok(-1); 4],
                 ),
                 case(
                     node(5, 0),
@@ -213,13 +211,13 @@ mod tests {
             &rt,
             Rule::SameGeneration,
             &[
-                case(node(5, 0), node(5, 0), [0; 4], [0; 4]),
-                case(was_primary(node(5, 0)), node(5, 0), [1; 4], [-1; 4]),
+                case(node(5, 0), node(5, 0), [Ok(0); 4], [Ok(0); 4]),
+                case(was_primary(node(5, 0)), node(5, 0), [Ok(1); 4], [Ok(-1); 4]),
                 case(
                     marked(was_primary(node(5, 0)), 2),
                     marked(was_primary(node(5, 0)), 7),
-                    [SPLIT, -2, 2, -2],
-                    [SPLIT, -2, 2, 2],
+                    [SPLIT, Ok(-2), Ok(2), Ok(-2)],
+                    [SPLIT, Ok(-2), Ok(2), Ok(2)],
                 ),
             ],
         );
@@ -231,15 +229,20 @@ mod tests {
             &rt,
             Rule::InBitmap,
             &[
-                case(node(4, 2), node(2, 0), [1; 4], [-1; 4]),
-                case(node(4, 2), node(2, 4), [SPLIT, -2, 2, 2], [SPLIT, -2, 2, 2]),
+                case(node(4, 2), node(2, 0), [Ok(1); 4], [Ok(-1); 4]),
+                case(
+                    node(4, 2),
+                    node(2, 4),
+                    [SPLIT, Ok(-2), Ok(2), Ok(2)],
+                    [SPLIT, Ok(-2), Ok(2), Ok(2)],
+                ),
                 case(
                     inconsistent(node(4, 2)),
                     node(2, 0),
                     [NO_SOURCE; 4],
                     [NO_SOURCE; 4],
                 ),
-                case(node(4, 2), aged(2, 7, 4, 0), [1; 4], [-1; 4]),
+                case(node(4, 2), aged(2, 7, 4, 0), [Ok(1); 4], [Ok(-1); 4]),
             ],
         );
     }
@@ -250,13 +253,13 @@ mod tests {
             &rt,
             Rule::InHistory,
             &[
-                case(aged(8, 6, 4, 2), node(2, 0), [2; 4], [-2; 4]),
-                case(aged(8, 6, 4, 2), node(4, 0), [2; 4], [-2; 4]),
+                case(aged(8, 6, 4, 2), node(2, 0), [Ok(2); 4], [Ok(-2); 4]),
+                case(aged(8, 6, 4, 2), node(4, 0), [Ok(2); 4], [Ok(-2); 4]),
                 case(
                     aged(8, 6, 4, 0),
                     aged(4, 3, 1, 8),
-                    [SPLIT, -2, 2, 2],
-                    [SPLIT, -2, 2, 2],
+                    [SPLIT, Ok(-2), Ok(2), Ok(2)],
+                    [SPLIT, Ok(-2), Ok(2), Ok(2)],
                 ),
             ],
         );
@@ -268,18 +271,23 @@ mod tests {
             &rt,
             Rule::SameBitmap,
             &[
-                case(node(4, 2), node(3, 2), [SPLIT, -1, 1, 1], [SPLIT, -1, 1, 1]),
+                case(
+                    node(4, 2),
+                    node(3, 2),
+                    [SPLIT, Ok(-1), Ok(1), Ok(1)],
+                    [SPLIT, Ok(-1), Ok(1), Ok(1)],
+                ),
                 case(
                     marked(in_use(node(4, 2)), 3),
                     marked(node(3, 2), 9),
-                    [SPLIT, SPLIT, 1, SPLIT],
-                    [SPLIT, -1, SPLIT, SPLIT],
+                    [SPLIT, SPLIT, Ok(1), SPLIT],
+                    [SPLIT, Ok(-1), SPLIT, SPLIT],
                 ),
                 case(
                     marked(inconsistent(aged(4, 2, 1, 0)), 1),
                     marked(aged(3, 2, 1, 0), 1),
-                    [SPLIT, -1, SPLIT, SPLIT],
-                    [SPLIT, SPLIT, 1, 1],
+                    [SPLIT, Ok(-1), SPLIT, SPLIT],
+                    [SPLIT, SPLIT, Ok(1), Ok(1)],
                 ),
             ],
         );
@@ -294,20 +302,20 @@ mod tests {
                 case(
                     aged(9, 7, 2, 0),
                     aged(8, 6, 2, 0),
-                    [SPLIT, -2, 2, 2],
-                    [SPLIT, -2, 2, 2],
+                    [SPLIT, Ok(-2), Ok(2), Ok(2)],
+                    [SPLIT, Ok(-2), Ok(2), Ok(2)],
                 ),
                 case(
                     aged(9, 7, 3, 0),
                     node(8, 3),
-                    [SPLIT, -2, 2, 2],
-                    [SPLIT, -2, 2, 2],
+                    [SPLIT, Ok(-2), Ok(2), Ok(2)],
+                    [SPLIT, Ok(-2), Ok(2), Ok(2)],
                 ),
                 case(
                     marked(aged(9, 7, 0, 3), 5),
                     marked(aged(8, 6, 4, 3), 1),
-                    [SPLIT, -2, 2, 2],
-                    [SPLIT, -2, 2, -2],
+                    [SPLIT, Ok(-2), Ok(2), Ok(2)],
+                    [SPLIT, Ok(-2), Ok(2), Ok(-2)],
                 ),
             ],
         );

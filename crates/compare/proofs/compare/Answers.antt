@@ -1,20 +1,16 @@
-use Rattle.std.proofs.Common.{◌≡◌, sym, ap, ◌∙◌, subst, rules}
-use Rattle.compare.specs.Meeting.{comparison}
-use Rattle.compare.specs.Laws.{from_there, Sound}
+use Rattle.std.proofs.Common.{rules}
 use Rattle.compare.proofs.Mirror.{comparison_mirror}
 use Rattle.compare.proofs.Harm.{comparison_sound}
-use Rattle.compare.proofs.Apart.{went_on_apart}
 use Rattle.compare.proofs.compare.Goals as goal
 
-pub returns : goal.returns
-returns c =
-    let m = c.args.mine in
-    let p = c.args.peer in
-    let n = c.args.asking in
-    let is : c.answer.result ≡ comparison m p n c.args.word = search rules in
-    record {
-      answer = is;
-      mirrored = comparison_mirror m p n c.args.word ∙ ap from_there (sym is);
-      sound = subst (Sound m p) (sym is) (comparison_sound m p n c.args.word);
-      apart = λ went_on unsaid. is ∙ (ap (comparison m p n) unsaid ∙ went_on_apart m p n went_on);
-    }
+pub returns-in_err-finds-clause-mirrored : goal.returns-in_err-finds-clause-mirrored
+returns-in_err-finds-clause-mirrored c = comparison_mirror c.args.mine c.args.peer c.args.asking c.args.word _ (search rules)
+
+pub returns-in_err-tested-clause-mirrored : goal.returns-in_err-tested-clause-mirrored
+returns-in_err-tested-clause-mirrored c = comparison_mirror c.args.mine c.args.peer c.args.asking c.args.word _ (search rules)
+
+pub returns-clause-mirrored : goal.returns-clause-mirrored
+returns-clause-mirrored c = comparison_mirror c.args.mine c.args.peer c.args.asking c.args.word _ (search rules)
+
+pub returns-clause-sound : goal.returns-clause-sound
+returns-clause-sound c = comparison_sound c.args.mine c.args.peer c.args.asking c.args.word _ (search rules)

@@ -1,5 +1,5 @@
-use Rattle.std.proofs.Common.{refl}
-use Rattle.worked_examples.proofs.Places.{nine_alone, in_extent_0, in_extent_1}
+use Rattle.std.proofs.Common.{refl, arith}
+use Rattle.worked_examples.proofs.Places.{nine_alone, extent_alone}
 use Rattle.worked_examples.proofs.worked_examples_stand.Goals as goal
 
 pub returns : goal.returns
@@ -13,6 +13,6 @@ returns c =
       strangers = λ n. refl;
       long_away = λ n. refl;
       block_9_alone = nine_alone;
-      block_63_in_extent_0 = in_extent_0;
-      block_64_in_extent_1 = in_extent_1;
+      block_63_in_extent_0 = (extent_alone 0 63 (omega arith), extent_alone 1 63 (omega arith));
+      block_64_in_extent_1 = (extent_alone 1 64 (omega arith), extent_alone 0 64 (omega arith));
     }
