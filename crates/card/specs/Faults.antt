@@ -4,22 +4,28 @@ use Rattle.refusal.specs.declared.Refusal.{Refusal}
 use Rattle.refusal.specs.declared.Refusal.TheVariants.{Meta}
 use Rattle.field.specs.declared.FieldFault.{FieldFault}
 use Rattle.bitmap.specs.declared.BitmapFault.{BitmapFault}
-use Rattle.card.specs.declared.fault.GenerationFault.{GenerationFault}
-use Rattle.card.specs.declared.fault.ActivityFault.{ActivityFault}
+use Rattle.card.specs.declared.fault.RecordFault.{RecordFault}
 use Rattle.card.specs.declared.fault.MetaFault.{MetaFault}
 use Rattle.card.specs.declared.fault.NodeFault.{NodeFault}
 
-abbrev pub in_generation : FieldFault → GenerationFault
-in_generation fault = record { byte = fault.at }
+-- the record of a block
+abbrev pub in_record : (block : ℕ) → FieldFault → RecordFault block
+in_record block fault = record { byte = fault.at }
 
-abbrev pub in_activity : FieldFault → ActivityFault
-in_activity fault = record { byte = fault.at }
+abbrev pub of_record : (block : ℕ) → RecordFault block → MetaFault
+of_record block fault = record { block = block; byte = fault.byte }
 
-abbrev pub of_generation : GenerationFault → MetaFault
-of_generation fault = record { block = 0; byte = fault.byte }
+abbrev pub in_generation : FieldFault → RecordFault 0
+in_generation = in_record 0
 
-abbrev pub of_activity : ActivityFault → MetaFault
-of_activity fault = record { block = 1; byte = fault.byte }
+abbrev pub in_activity : FieldFault → RecordFault 1
+in_activity = in_record 1
+
+abbrev pub of_generation : RecordFault 0 → MetaFault
+of_generation = of_record 0
+
+abbrev pub of_activity : RecordFault 1 → MetaFault
+of_activity = of_record 1
 
 abbrev pub of_bitmap : BitmapFault → MetaFault
 of_bitmap fault = record { block = 2; byte = fault.byte }

@@ -1,10 +1,12 @@
 -- The generation record, a card's block 0.
 use Rattle.std.specs.Prelude.{◌≡◌, ℕ, ◌+◌, ◌*◌, Bool, true, false, cond, ◌&&◌, List, [], ◌∷◌, Some, None, Ok, Err, Option, Result, ◌==◌, nat_lt, slice_index}
 use Rattle.field.specs.declared.FieldFault.{FieldFault}
+use Rattle.row.specs.declared.Limit.{Limit}
+use Rattle.row.specs.Rows.{within}
+use Rattle.row.specs.Records.{row_of, record_answer}
 use Rattle.card.specs.declared.generation.Generation.{Generation}
-use Rattle.card.specs.declared.fault.GenerationFault.{GenerationFault}
+use Rattle.card.specs.declared.fault.RecordFault.{RecordFault}
 use Rattle.card.specs.Faults.{in_generation}
-use Rattle.card.specs.Rows.{row_of, row_answer, within}
 
 abbrev pub fresh_of : ℕ → ℕ → Generation
 fresh_of slots blocks =
@@ -32,10 +34,14 @@ bytes_of g = row_of 512 (numbers_of g)
 
 -- ---- reading
 
+abbrev pub between : ℕ → ℕ → Limit
+between least most = record { least = least; most = most }
+
 -- the least and the most that each field may hold, on a card of so many data blocks
-abbrev pub limits_at : ℕ → List (ℕ × ℕ)
+abbrev pub limits_at : ℕ → List Limit
 limits_at blocks =
-    (0, 1999999999) ∷ (0, 1999999999) ∷ (0, 1999999999) ∷ (0, 1999999999) ∷ (0, 999999999) ∷ (0, 1) ∷ (0, 1) ∷ (4, 16) ∷ (blocks, blocks) ∷ []
+    between 0 1999999999 ∷ between 0 1999999999 ∷ between 0 1999999999 ∷ between 0 1999999999 ∷ between 0 999999999 ∷ between 0 1 ∷ between 0 1 ∷ between 4 16
+    ∷ between blocks blocks ∷ []
 
 abbrev pub generation_of : List ℕ → Generation
 generation_of ns =
@@ -51,19 +57,19 @@ generation_of ns =
       blocks = slice_index ns 8;
     }
 
-abbrev pub told : Result (List ℕ) FieldFault → Result Generation GenerationFault
+abbrev pub told : Result (List ℕ) FieldFault → Result Generation (RecordFault 0)
 told (Ok numbers) = Ok (generation_of numbers)
 told (Err fault) = Err (in_generation fault)
 
-abbrev pub read_answer : List ℕ → ℕ → Result Generation GenerationFault
-read_answer block blocks = told (row_answer block (limits_at blocks) false)
+abbrev pub read_answer : List ℕ → ℕ → Result Generation (RecordFault 0)
+read_answer block blocks = told (record_answer block (limits_at blocks) false)
 
 -- ---- the law of both: every record written reads back as itself, and no other bytes read as it
 
 abbrev pub in_range : ℕ → Generation → Bool
 in_range blocks g = within false [] (limits_at blocks) (numbers_of g)
 
-pub record RoundTrip (block : List ℕ) (blocks : ℕ) (answer : Result Generation GenerationFault) : Type 0 where
+pub record RoundTrip (block : List ℕ) (blocks : ℕ) (answer : Result Generation (RecordFault 0)) : Type 0 where
   pub sound : (g : Generation) → answer ≡ Ok g → (in_range blocks g ≡ true) × (block ≡ bytes_of g)
   pub complete : (g : Generation) → in_range blocks g ≡ true → block ≡ bytes_of g → answer ≡ Ok g
 

@@ -1,22 +1,20 @@
 // A fault in a card's metadata on its way up: from a field or a byte, by its block and its node, to the refusal that is told.
 ghost use Rattle.std.specs.Prelude.{◌≡◌};
-ghost use Rattle.card.specs.Faults.{in_generation, in_activity, of_generation, of_activity, of_bitmap, at_node, refusal_of};
+ghost use Rattle.card.specs.Faults.{in_record, of_record, of_bitmap, at_node, refusal_of};
 
 use bitmap::BitmapFault;
 use field::FieldFault;
 use refusal::Refusal;
 
-// The first wrong byte of block 0, or the first byte of its first wrong field.
+// The first wrong byte of the record in that block, or the first byte of its first wrong field.
 #[derive(Clone, Copy, PartialEq, Eq, Debug)]
-pub struct GenerationFault {
+pub struct RecordFault<const BLOCK: usize> {
     pub byte: usize,
 }
 
-// The same of block 1.
-#[derive(Clone, Copy, PartialEq, Eq, Debug)]
-pub struct ActivityFault {
-    pub byte: usize,
-}
+pub type GenerationFault = RecordFault<0>;
+
+pub type ActivityFault = RecordFault<1>;
 
 #[derive(Clone, Copy, PartialEq, Eq, Debug)]
 pub struct MetaFault {
@@ -31,39 +29,20 @@ pub struct NodeFault {
     pub byte: usize,
 }
 
-impl From<FieldFault> for GenerationFault {
-    ghost from_gives = { λ f r. r ≡ in_generation f };
+impl<const BLOCK: usize> From<FieldFault> for RecordFault<BLOCK> {
+    ghost from_gives = { λ f r. r ≡ in_record BLOCK f };
 
-    fn from(fault: FieldFault) -> GenerationFault {
-        GenerationFault { byte: fault.at }
+    fn from(fault: FieldFault) -> RecordFault<BLOCK> {
+        RecordFault { byte: fault.at }
     }
 }
 
-impl From<FieldFault> for ActivityFault {
-    ghost from_gives = { λ f r. r ≡ in_activity f };
+impl<const BLOCK: usize> From<RecordFault<BLOCK>> for MetaFault {
+    ghost from_gives = { λ f r. r ≡ of_record BLOCK f };
 
-    fn from(fault: FieldFault) -> ActivityFault {
-        ActivityFault { byte: fault.at }
-    }
-}
-
-impl From<GenerationFault> for MetaFault {
-    ghost from_gives = { λ f r. r ≡ of_generation f };
-
-    fn from(fault: GenerationFault) -> MetaFault {
+    fn from(fault: RecordFault<BLOCK>) -> MetaFault {
         MetaFault {
-            block: 0,
-            byte: fault.byte,
-        }
-    }
-}
-
-impl From<ActivityFault> for MetaFault {
-    ghost from_gives = { λ f r. r ≡ of_activity f };
-
-    fn from(fault: ActivityFault) -> MetaFault {
-        MetaFault {
-            block: 1,
+            block: BLOCK,
             byte: fault.byte,
         }
     }
@@ -80,15 +59,13 @@ impl From<BitmapFault> for MetaFault {
     }
 }
 
-impl MetaFault {
-    pub fn at_node(self, node: usize) -> NodeFault
-        ensures { result ≡ at_node node self }
-    {
-        NodeFault {
-            node,
-            block: self.block,
-            byte: self.byte,
-        }
+// The node is known where its card is read.
+impl From<(usize, MetaFault)> for NodeFault {
+    ghost from_gives = { λ f r. r ≡ at_node f.0 f.1 };
+
+    fn from((node, fault): (usize, MetaFault)) -> NodeFault {
+        let MetaFault { block, byte } = fault;
+        NodeFault { node, block, byte }
     }
 }
 

@@ -1,13 +1,26 @@
 // The generation record, a card's block 0.
-ghost use Rattle.std.specs.Prelude.{◌≡◌};
-ghost use Rattle.card.specs.Generations.{fresh_of, bytes_of, read_answer, RoundTrip, next_identifier, after_identifier};
+ghost use Rattle.std.specs.Prelude.{◌≡◌, true};
+ghost use Rattle.row.specs.Rows.{all_fit};
+ghost use Rattle.card.specs.Generations.{fresh_of, numbers_of, bytes_of, limits_at, read_answer, RoundTrip, next_identifier, after_identifier};
 
 use crate::fault::GenerationFault;
-use crate::row::{get_row, put_row};
-
-const IDENTIFIER: u32 = 1_999_999_999;
+use row::{Limit, record};
 
 const SERIAL: u32 = 999_999_999;
+
+const IDENTIFIERS: Limit = Limit {
+    least: 0,
+    most: 1_999_999_999,
+};
+
+const SERIALS: Limit = Limit {
+    least: 0,
+    most: SERIAL as u64,
+};
+
+const FLAG: Limit = Limit { least: 0, most: 1 };
+
+const SLOTS: Limit = Limit { least: 4, most: 16 };
 
 #[derive(Clone, Copy, PartialEq, Eq, Debug)]
 pub struct Generation {
@@ -23,6 +36,26 @@ pub struct Generation {
     pub slots: u32,
     // How many data blocks the card has.
     pub blocks: u32,
+}
+
+fn limits_at(blocks: u32) -> [Limit; 9]
+    ensures { result ≡ limits_at blocks }
+{
+    let blocks = Limit {
+        least: u64::from(blocks),
+        most: u64::from(blocks),
+    };
+    [
+        IDENTIFIERS,
+        IDENTIFIERS,
+        IDENTIFIERS,
+        IDENTIFIERS,
+        SERIALS,
+        FLAG,
+        FLAG,
+        SLOTS,
+        blocks,
+    ]
 }
 
 impl Generation {
@@ -43,23 +76,28 @@ impl Generation {
         }
     }
 
+    // The fields in their order, each of which twelve columns hold.
+    fn numbers(&self) -> [u64; 9]
+        ensures fields { result ≡ numbers_of self.now }
+        ensures fit { all_fit (numbers_of self.now) ≡ true }
+    {
+        [
+            u64::from(self.current),
+            u64::from(self.bitmap),
+            u64::from(self.history_1),
+            u64::from(self.history_2),
+            u64::from(self.serial),
+            u64::from(self.consistent),
+            u64::from(self.primary),
+            u64::from(self.slots),
+            u64::from(self.blocks),
+        ]
+    }
+
     pub fn to_block(&self) -> [u8; 512]
         ensures { result ≡ bytes_of self.now }
     {
-        let numbers = [
-            self.current,
-            self.bitmap,
-            self.history_1,
-            self.history_2,
-            self.serial,
-            self.consistent as u32,
-            self.primary as u32,
-            self.slots,
-            self.blocks,
-        ];
-        let mut block = [0; 512];
-        put_row(&mut block, &numbers);
-        block
+        record::to_block(&self.numbers())
     }
 
     // The record of a card that has so many data blocks.
@@ -67,29 +105,29 @@ impl Generation {
         ensures answer { result ≡ read_answer block.now blocks }
         ensures law { RoundTrip block.now blocks result }
     {
-        let limits = [
-            (0, IDENTIFIER),
-            (0, IDENTIFIER),
-            (0, IDENTIFIER),
-            (0, IDENTIFIER),
-            (0, SERIAL),
-            (0, 1),
-            (0, 1),
-            (4, 16),
-            (blocks, blocks),
-        ];
-        let mut numbers = [0; 9];
-        get_row(block, &limits, false, &mut numbers)?;
+        let [
+            current,
+            bitmap,
+            history_1,
+            history_2,
+            serial,
+            consistent,
+            primary,
+            slots,
+            blocks,
+        ] = record::from_block(block, &limits_at(blocks), false)?;
+        // Each number is within its limits, and so has 32 bits.
+        // A flag is 0 or 1 by its limits, and no From makes a bool of a number.
         Ok(Generation {
-            current: numbers[0],
-            bitmap: numbers[1],
-            history_1: numbers[2],
-            history_2: numbers[3],
-            serial: numbers[4],
-            consistent: numbers[5] == 1,
-            primary: numbers[6] == 1,
-            slots: numbers[7],
-            blocks: numbers[8],
+            current: current as u32,
+            bitmap: bitmap as u32,
+            history_1: history_1 as u32,
+            history_2: history_2 as u32,
+            serial: serial as u32,
+            consistent: consistent == 1,
+            primary: primary == 1,
+            slots: slots as u32,
+            blocks: blocks as u32,
         })
     }
 

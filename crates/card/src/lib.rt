@@ -6,4 +6,3 @@ pub mod fault;
 pub mod generation;
 pub mod making;
 pub mod reading;
-mod row;

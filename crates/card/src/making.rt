@@ -11,23 +11,21 @@ use refusal::Refusal;
 pub fn data_blocks(count: usize) -> Result<u32, Refusal>
     ensures { result ≡ data_blocks count }
 {
-    if count < 4 || count > 4099 {
-        return Err(Refusal::Measure);
+    match count {
+        4..=4099 => Ok((count - 3) as u32),
+        _ => Err(Refusal::Measure),
     }
-    Ok((count - 3) as u32)
 }
 
 // 0 asks for the default.
 fn slots_in_use(slots: usize) -> Result<u32, Refusal>
     ensures { result ≡ slots_in_use slots }
 {
-    if slots == 0 {
-        return Ok(7);
+    match slots {
+        0 => Ok(7),
+        4..=16 => Ok(slots as u32),
+        _ => Err(Refusal::Measure),
     }
-    if slots < 4 || slots > 16 {
-        return Err(Refusal::Measure);
-    }
-    Ok(slots as u32)
 }
 
 // A write that dies leaves those before it.

@@ -1,6 +1,6 @@
 // Reading a card: its three metadata blocks are checked in turn.
 ghost use Rattle.std.specs.Prelude.{◌≡◌};
-ghost use Rattle.card.specs.Reading.{contents_of, decode_answer, at_node_of, block_answer, told_of, card_answer};
+ghost use Rattle.card.specs.Reading.{contents_of, decode_answer, block_answer, told_of, card_answer};
 
 use crate::activity::Activity;
 use crate::fault::{MetaFault, NodeFault};
@@ -30,19 +30,11 @@ fn decode(zero: &[u8], one: &[u8], two: &[u8], blocks: u32) -> Result<Card, Meta
     })
 }
 
-fn at_node(read: Result<Card, MetaFault>, node: usize) -> Result<Card, NodeFault>
-    ensures { result ≡ at_node_of node read }
-{
-    match read {
-        Ok(card) => Ok(card),
-        Err(fault) => Err(fault.at_node(node)),
-    }
-}
-
-fn read_block<D: Device>(device: &D, block: usize) -> Result<[u8; 512], Refusal>
+// A block of a device, by value.
+pub fn read_block<D: Device>(device: &D, block: usize) -> Result<[u8; 512], Refusal>
     ensures { result ≡ block_answer (D.Device.means device.now).disk block }
 {
-    let mut bytes = [0; 512];
+    let mut bytes = [0u8; 512];
     device.read(block, &mut bytes)?;
     Ok(bytes)
 }
@@ -55,6 +47,6 @@ pub fn read_card<D: Device>(device: &D, node: usize) -> Result<Card, Refusal>
     let zero = read_block(device, 0)?;
     let one = read_block(device, 1)?;
     let two = read_block(device, 2)?;
-    let card = at_node(decode(&zero, &one, &two, blocks), node)?;
+    let card = decode(&zero, &one, &two, blocks).map_err(|fault| NodeFault::from((node, fault)))?;
     Ok(card)
 }

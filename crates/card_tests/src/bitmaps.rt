@@ -1,8 +1,7 @@
-use bitmap::{Bitmap, BitmapFault};
+use bitmap::Bitmap;
 
 fn byte(map: &Bitmap, k: usize) -> u8 {
-    let bytes = map.as_bytes();
-    if k < bytes.len() { bytes[k] } else { 0 }
+    map.as_bytes().get(k).copied().unwrap_or(0)
 }
 
 #[test]
@@ -61,10 +60,9 @@ fn a_union_has_the_bits_of_both(rt: HostRuntime) {
 }
 
 fn fault(bytes: &[u8], blocks: usize) -> Option<usize> {
-    match Bitmap::from_bytes(bytes, blocks) {
-        Ok(_) => None,
-        Err(BitmapFault { byte }) => Some(byte),
-    }
+    Bitmap::from_bytes(bytes, blocks)
+        .err()
+        .map(|fault| fault.byte)
 }
 
 #[test]

@@ -27,19 +27,13 @@ fn made(heap: Global, blocks: usize, slots: usize) -> Result<Result<u32, Refusal
     let Ok(mut device) = Flat::new(area.as_mut_slice()) else {
         return Err(Fail::new("no device"));
     };
-    if let Err(refusal) = create(&mut device, slots) {
-        return Ok(Err(refusal));
-    }
-    match read_card(&device, 1) {
-        Ok(card) => Ok(Ok(card.generation.slots)),
-        Err(refusal) => Ok(Err(refusal)),
-    }
+    let read = create(&mut device, slots).and_then(|()| read_card(&device, 1));
+    Ok(read.map(|card| card.generation.slots))
 }
 
 #[test]
 fn which_cards_are_made(rt: HostRuntime) -> Result<(), Fail> {
-    for case in CARDS.iter() {
-        let (blocks, slots, answer) = *case;
+    for (blocks, slots, answer) in CARDS {
         assert_eq!(rt; made(rt.alloc(), blocks, slots)?, answer);
     }
     Ok(())
@@ -47,10 +41,7 @@ fn which_cards_are_made(rt: HostRuntime) -> Result<(), Fail> {
 
 fn first_byte<D: Device>(device: &D, block: usize) -> u8 {
     let mut buffer = [0u8; 512];
-    match device.read(block, &mut buffer) {
-        Ok(()) => buffer[0],
-        Err(_) => 0,
-    }
+    device.read(block, &mut buffer).map_or(0, |()| buffer[0])
 }
 
 // Create with so many block writes left, over blocks full of 9: the answer, and the first byte of each metadata block.
@@ -61,12 +52,7 @@ fn created_on(rt: &impl Abort, supply: u32) -> Result<(Result<(), Refusal>, [u8;
     };
     assert!(rt; device.set_supply(supply).is_ok());
     let answer = create(&mut device, 0);
-    let front = [
-        first_byte(&device, 0),
-        first_byte(&device, 1),
-        first_byte(&device, 2),
-        first_byte(&device, 3),
-    ];
+    let front = [0, 1, 2, 3].map(|block| first_byte(&device, block));
     Ok((answer, front))
 }
 

@@ -1,24 +1,25 @@
 -- When a message is written, and what the buffer holds then.
-use Rattle.std.proofs.Common.{◌≡◌, ℕ, ◌+◌, ◌-◌, ◌*◌, ◌<◌, ◌≤◌, Bool, true, false, ◌&&◌, eqb, leb, List, [], ◌∷◌, ◌++◌, length, take, drop, Some, None, Ok, Err, Option, sym, refl, ap, ◌∙◌, inl, inr, arith, eq-eqb, ne_eqb, le-leb}
+use Rattle.std.proofs.Common.{◌≡◌, ℕ, ◌+◌, ◌-◌, ◌*◌, ◌<◌, ◌≤◌, true, false, ◌&&◌, eqb, leb, List, [], ◌∷◌, ◌++◌, length, take, drop, set, Some, None, Ok, Err, Option, Result, sym, refl, ap, ◌∙◌, inl, inr, arith, eq-eqb, ne_eqb, le-leb}
 use borrow.Rule.Slice.PartMut.{put_mid}
 use Rattle.std.proofs.lemmas.List.{length-append, drop-drop, take_at, drop_at, append_assoc}
 use Rattle.std.proofs.lemmas.Bool.{lt-leb, cond-true, cond-false, and_left, and_right, and_from}
 use Rattle.std.proofs.lemmas.Bool.Decides.{eqb_tells}
 use Rattle.bitmap.specs.declared.BitmapFault.{BitmapFault}
 use Rattle.bitmap.specs.Bits.{next}
-use Rattle.bitmap.specs.Bytes.{read_answer}
+use Rattle.std.specs.Result.{result_ok}
+use Rattle.bitmap.specs.declared.Bitmap.{Bitmap}
+use Rattle.bitmap.specs.Bytes.{bytes_of, read_answer}
 use Rattle.bitmap.specs.Bytes.{unless_stray as bitmap-unless}
 use Rattle.bitmap.proofs.Laws.{within_read}
-use Rattle.message.specs.declared.Limit.{Limit}
-use Rattle.message.specs.Rows.{fields_of, within, Fitting}
+use Rattle.row.specs.declared.Limit.{Limit}
+use Rattle.row.specs.Rows.{fields_of, fits_row, put_row}
+use Rattle.row.proofs.Writing.{length_fields, put_fitting}
+use Rattle.row.proofs.Laws.{within-fit}
+use Rattle.message.specs.Rows.{within}
 use Rattle.message.specs.Frames.{Shape, Said, plain, bits_shape, frame_of, shape_of, is_none, clear, sayable, goes, write_answer, write_into}
 use Rattle.message.specs.declared.Message.{Message}
-use Rattle.message.specs.declared.Message.TheVariants.{Report}
-use Rattle.message.specs.declared.Role.{Role}
-use Rattle.message.specs.Messages.{role_number, flag, says, said_by}
-use Rattle.message.proofs.Rows.{within_at}
+use Rattle.message.specs.Messages.{says, said_by}
 use Rattle.message.proofs.Decoding.{bits_read}
-use Rattle.message.proofs.Writing.{length_fields}
 
 pub length_frame : (said : Said) → length (frame_of said) ≡ 1 + 12 * length said.numbers + length said.bytes
 length_frame said = let l = length_fields said.numbers in let a = length-append (fields_of said.numbers) said.bytes in omega arith
@@ -69,8 +70,20 @@ written_frame limits size said out after count n b h w e =
     (and_from _ _ (and_from _ _ w (and_from _ _ (eq-eqb (length said.bytes) size b) refl)) (le-leb (length (frame_of said)) (length out) (omega arith))) s
     (e ∙ ap (λ (k : ℕ). frame_of said ++ drop k out) s)
 
-pub within_fitting : (limits : List Limit) (numbers : List ℕ) → length numbers ≡ length limits → within limits numbers ≡ true → Fitting numbers
-within_fitting limits numbers l w i h = (within_at limits numbers i w (omega arith)).fitting
+-- the row of a frame that is written
+pub record Placed (out numbers : List ℕ) : Type 0 where
+  pub fits : fits_row out 1 numbers ≡ true
+  pub stands : put_row out 1 numbers ≡ (take 1 out ++ fields_of numbers) ++ drop (1 + 12 * length numbers) out
+
+pub placed : (limits : List Limit) (numbers out : List ℕ) → within limits numbers ≡ true → 1 + 12 * length numbers ≤ length out → Placed out numbers
+placed limits numbers out w h =
+    let p = put_fitting out 1 numbers (record { roomy = le-leb (1 + 12 * length numbers) (length out) h; small = within-fit false [] limits numbers w }) in
+    record { fits = p.0; stands = p.1 }
+
+pub lettered : (out row : List ℕ) (letter : ℕ) (numbers : List ℕ) → 1 ≤ length out → Placed out numbers → row ≡ put_row out 1 numbers
+    → set row 0 letter ≡ (letter ∷ fields_of numbers) ++ drop (1 + 12 * length numbers) out
+lettered [] row letter numbers h p e = absurd (omega arith)
+lettered (x ∷ xs) row letter numbers h p e = ap (λ (bytes : List ℕ). set bytes 0 letter) (e ∙ p.stands)
 
 -- the bytes after the fields
 pub bytes_placed : (said : Said) (out mid last : List ℕ) (count size : ℕ) → mid ≡ (said.letter ∷ fields_of said.numbers) ++ drop (1 + 12 * count) out
@@ -97,11 +110,11 @@ bits_stray : (bytes : List ℕ) (fault : BitmapFault) (stray : Option ℕ) → E
 bits_stray bytes fault None h = cc
 bits_stray bytes fault (Some i) h = refl
 
-pub clear_read : (bytes read : List ℕ) (blocks : ℕ) → Ok read ≡ read_answer bytes blocks → clear blocks bytes ≡ true
+clear_read : (bytes read : List ℕ) (blocks : ℕ) → Ok read ≡ read_answer bytes blocks → clear blocks bytes ≡ true
 clear_read bytes read blocks h =
     let l = (within_read blocks bytes read (sym h)).0 in bits_clear bytes read blocks _ (h ∙ bits_read bytes blocks l)
 
-pub refused_bits : (bytes out : List ℕ) (blocks : ℕ) (fault : BitmapFault) → Err fault ≡ read_answer bytes blocks → Writes (Some (bits_shape blocks)) (says 66 [] bytes) out None out
+refused_bits : (bytes out : List ℕ) (blocks : ℕ) (fault : BitmapFault) → Err fault ≡ read_answer bytes blocks → Writes (Some (bits_shape blocks)) (says 66 [] bytes) out None out
 unfolding goes sayable
 refused_bits bytes out blocks fault h =
     let f : (eqb (length bytes) 512 && clear blocks bytes) ≡ false = elim (eqb_tells (length bytes) 512) [
@@ -109,6 +122,16 @@ refused_bits bytes out blocks fault h =
       | inr t ↦ and_left _ _ t.0
     ] in
     refused (Some (bits_shape blocks)) (says 66 [] bytes) out (and_left _ _ (and_right (within [] []) _ f))
+
+pub unread : (bytes out : List ℕ) (blocks : ℕ) (read : Result Bitmap BitmapFault) → bytes_of read ≡ read_answer bytes blocks → result_ok read ≡ None
+    → Writes (Some (bits_shape blocks)) (says 66 [] bytes) out None out
+unread bytes out blocks (Ok map) h n = cc
+unread bytes out blocks (Err fault) h n = refused_bits bytes out blocks fault h
+
+pub clear_bits : (bytes : List ℕ) (blocks : ℕ) (map : Bitmap) (read : Result Bitmap BitmapFault) → bytes_of read ≡ read_answer bytes blocks → result_ok read ≡ Some map
+    → clear blocks bytes ≡ true
+clear_bits bytes blocks map (Ok read) h s = clear_read bytes _ blocks h
+clear_bits bytes blocks map (Err fault) h s = cc
 
 pub written_bits : (said : Said) (out after : List ℕ) (blocks : ℕ) (answer : Option ℕ) → clear blocks said.bytes ≡ true → answer ≡ write_answer (Some (plain [] 512)) said out
     → after ≡ write_into (Some (plain [] 512)) said out → Writes (Some (bits_shape blocks)) said out answer after
@@ -123,8 +146,3 @@ pub encoded : (blocks : ℕ) (message : Message) (said : Said) (shape : Shape) (
 encoded blocks message said shape given out after answer m s g a b =
     let e : shape_of blocks (said_by message).letter ≡ given = ap (λ (x : Said). shape_of blocks x.letter) m ∙ s ∙ sym g in
     record { answer_is = a ∙ rw (e, m); after_is = b ∙ rw (e, m) }
-
-pub report_said : (current bitmap recent older : ℕ) (consistent primary : Bool) (role : Role) (marked word number : ℕ) → number ≡ role_number role
-    → said_by (Report current bitmap recent older consistent primary role marked word)
-    ≡ says 82 (current ∷ bitmap ∷ recent ∷ older ∷ flag consistent ∷ flag primary ∷ number ∷ marked ∷ word ∷ []) []
-report_said current bitmap recent older consistent primary role marked word number e = rw e

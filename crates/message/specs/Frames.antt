@@ -2,8 +2,9 @@
 use Rattle.std.specs.Prelude.{ℕ, ◌+◌, ◌-◌, ◌/◌, Bool, true, false, cond, ◌&&◌, List, [], ◌∷◌, ◌++◌, length, drop, Some, None, Ok, Err, Option, Result, ◌==◌, nat_le, slice_index}
 use Rattle.bitmap.specs.Bits.{bit, next}
 use Rattle.message.specs.declared.FrameFault.{FrameFault}
-use Rattle.message.specs.declared.Limit.{Limit}
-use Rattle.message.specs.Rows.{fields_of, within, bytes_from, read_fields}
+use Rattle.row.specs.declared.Limit.{Limit}
+use Rattle.row.specs.Rows.{fields_of}
+use Rattle.message.specs.Rows.{within, bytes_from, read_fields}
 
 -- ---- what a letter asks of its frame
 

@@ -3,32 +3,25 @@
 
 ghost use Rattle.std.specs.Prelude.{◌≡◌};
 ghost use Rattle.message.specs.Messages.{refusal_of};
+ghost use Rattle.message.specs.Rows.{fault_of};
 
+use compare::Side;
+use field::FieldFault;
 use refusal::Refusal;
 
 pub mod decoder;
 pub mod encoder;
-mod row;
+mod limits;
 
-#[derive(Clone, Copy, PartialEq, Eq, Debug)]
-pub enum Role {
-    Secondary,
-    Primary,
-}
+// The bytes of a data block, and of a bitmap.
+const BLOCK: usize = 512;
 
 // Bytes are not copied out of the frame: a message lasts as long as the frame that it was read from.
 #[derive(Clone, Copy)]
 pub enum Message<'a> {
-    // A node's generation record, with its role, the number of its set bits and the operator's word.
+    // A node's side of the comparison, and the operator's word: any number, since `encode` and `decode` refuse what is no word.
     Report {
-        current: u64,
-        bitmap: u64,
-        recent: u64,
-        older: u64,
-        consistent: bool,
-        primary: bool,
-        role: Role,
-        marked: usize,
+        side: Side,
         word: u64,
     },
     // The generation that the target takes over.
@@ -70,17 +63,18 @@ pub struct FrameFault {
     pub byte: usize,
 }
 
+impl From<FieldFault> for FrameFault {
+    ghost from_gives = { λ field fault. fault ≡ fault_of field };
+
+    fn from(field: FieldFault) -> FrameFault {
+        FrameFault { byte: field.at }
+    }
+}
+
 impl From<FrameFault> for Refusal {
     ghost from_gives = { λ fault refusal. refusal ≡ refusal_of fault };
 
     fn from(fault: FrameFault) -> Refusal {
         Refusal::Frame { byte: fault.byte }
     }
-}
-
-// The numbers that a field may hold.
-#[derive(Clone, Copy)]
-pub struct Limit {
-    pub least: u64,
-    pub most: u64,
 }

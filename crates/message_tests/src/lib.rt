@@ -203,29 +203,28 @@ mod tests {
 
     fn made(head: &[u8], fill: u8) -> [u8; 600] {
         let mut bytes = [fill; 600];
-        for i in 0..head.len().min(600) {
-            bytes[i] = head[i];
+        for (byte, letter) in bytes.iter_mut().zip(head) {
+            *byte = *letter;
         }
         bytes
     }
 
     #[test]
     fn frames(rt: HostRuntime) {
-        for case in FRAMES.iter() {
-            let (head, len, fill, blocks, fault) = *case;
+        for (head, len, fill, blocks, fault) in FRAMES {
             let bytes = made(head, fill);
-            let frame = &bytes[0..len.min(600)];
+            let frame = &bytes[..len.min(600)];
             match decode(frame, blocks) {
                 Ok(message) => {
                     assert_eq!(rt; fault, None);
                     let mut out = [7u8; 600];
                     assert_eq!(rt; encode(&message, blocks, &mut out), Some(len));
-                    assert!(rt; &out[0..len.min(600)] == frame);
+                    assert!(rt; &out[..len.min(600)] == frame);
                     if len < 600 {
                         assert_eq!(rt; out[len], 7);
                     }
                     let short = len.min(600) / 2;
-                    assert_eq!(rt; encode(&message, blocks, &mut out[0..short]), None);
+                    assert_eq!(rt; encode(&message, blocks, &mut out[..short]), None);
                 }
                 Err(wrong) => assert_eq!(rt; Some(wrong.byte), fault),
             }

@@ -6,8 +6,8 @@ ghost use Rattle.card.specs.Activities.{extent_in, entered, extents_of, limits_a
 
 use crate::activity::Activity;
 use crate::fault::ActivityFault;
-use crate::row::{get_row, put_row};
 use bitmap::Bitmap;
+use row::{Limit, record};
 
 const SLOTS: usize = 16;
 
@@ -18,19 +18,17 @@ const EXTENTS: usize = 64;
 fn extents(blocks: u32) -> u32
     ensures { result ≡ extents_of blocks }
 {
-    if blocks == 0 {
-        return 0;
-    }
-    (blocks - 1) / 64 + 1
+    blocks.div_ceil(64)
 }
 
 // A slot past those in use is empty.
-fn limits_at(slots: u32, blocks: u32) -> [(u32, u32); 16]
+fn limits_at(slots: u32, blocks: u32) -> [Limit; 16]
     ensures { result ≡ limits_at slots blocks }
 {
-    let mut limits = [(0, 0); SLOTS];
+    let mut limits = [Limit { least: 0, most: 0 }; SLOTS];
     let used = (slots as usize).min(SLOTS);
-    limits[0..used].fill((0, extents(blocks)));
+    let most = u64::from(extents(blocks));
+    limits[..used].fill(Limit { least: 0, most });
     limits
 }
 
@@ -45,35 +43,23 @@ impl Activity {
     pub fn extent_in(&self, slot: usize) -> Option<u32>
         ensures { result ≡ extent_in self.now.slots slot }
     {
-        if slot >= SLOTS {
-            return None;
-        }
-        let number = self.slots[slot];
-        if number == 0 {
-            return None;
-        }
-        Some(number - 1)
+        let number = *self.slots.get(slot)?;
+        number.checked_sub(1).map(|extent| extent as u32)
     }
 
     // Puts an extent, one of the 64 that there are, into a slot.
     pub fn enter(&mut self, slot: usize, extent: usize)
         ensures { self.new.slots ≡ entered self.old.slots slot extent }
     {
-        if extent >= EXTENTS {
-            return;
+        if extent < EXTENTS && slot < SLOTS {
+            self.slots[slot] = extent as u64 + 1;
         }
-        if slot >= SLOTS {
-            return;
-        }
-        self.slots[slot] = extent as u32 + 1;
     }
 
     pub fn to_block(&self) -> [u8; 512]
         ensures { result ≡ row_of 512 self.now.slots }
     {
-        let mut block = [0; 512];
-        put_row(&mut block, &self.slots);
-        block
+        record::to_block(&self.slots)
     }
 
     // The record of a card that has so many slots in use, and so many data blocks.
@@ -81,10 +67,8 @@ impl Activity {
         ensures answer { numbers_of result ≡ read_answer block.now slots blocks }
         ensures law { RoundTrip block.now slots blocks (numbers_of result) }
     {
-        let limits = limits_at(slots, blocks);
-        let mut numbers = [0; SLOTS];
-        get_row(block, &limits, true, &mut numbers)?;
-        Ok(Activity { slots: numbers })
+        let slots = record::from_block(block, &limits_at(slots, blocks), true)?;
+        Ok(Activity { slots })
     }
 
     // Sets the bits of all data blocks in the extents that stand in a slot.
@@ -92,10 +76,9 @@ impl Activity {
         ensures bytes { map.new.bytes ≡ marked blocks self.now.slots map.old.bytes }
         ensures bits { (j : ℕ) → j < 4096 → bit map.new.bytes j ≡ (bit map.old.bytes j || (stands (j / 64 + 1) self.now.slots && nat_lt j blocks)) }
     {
-        for slot in 0..SLOTS {
-            let number = self.slots[slot];
-            if number != 0 {
-                map.mark_extent(number as usize - 1, blocks);
+        for number in self.slots {
+            if let Some(extent) = number.checked_sub(1) {
+                map.mark_extent(extent as usize, blocks);
             }
         }
     }

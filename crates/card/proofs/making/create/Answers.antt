@@ -1,38 +1,35 @@
-use Rattle.std.proofs.Common.{Err, ap, ◌∙◌}
+use Rattle.std.proofs.Common.{Err, ap, ◌∙◌, rules}
 use Rattle.std.proofs.lemmas.Result.{err_from_is_err_and}
+use Rattle.device.specs.Disk.{written}
 use Rattle.card.specs.Rows.{row_of}
 use Rattle.card.specs.Generations.{bytes_of}
-use Rattle.card.proofs.Creation.{refuses_count, refuses_slots, begun, wrote, died, finished}
+use Rattle.card.specs.Creation.{writes_answer, writes_after, create_answer, created}
+use Rattle.card.proofs.Creation.{begun, wrote, died, finished}
 use Rattle.card.proofs.making.create.Goals as goal
 
-pub returns-in_err-blocks : goal.returns-in_err-blocks
-returns-in_err-blocks g c =
-    let p = err_from_is_err_and c.from_residual.result c.from_residual.ensures.1 in
-    let h = refuses_count _ c.args.slots c.count.result c.in_err-blocks.field-0.0 c.from_residual.result c.count.ensures c.in_err-blocks.ensures (p.1 ∙ ap Err p.2) in
-    record { answer = h.0; after = h.1 }
+pub returns-in_err-blocks-clause-answer : goal.returns-in_err-blocks-clause-answer
+unfolding create_answer
+returns-in_err-blocks-clause-answer g c = search rules
 
-pub returns-in_err-used : goal.returns-in_err-used
-returns-in_err-used g c =
-    let p = err_from_is_err_and c.from_residual-in_err-used.result c.from_residual-in_err-used.ensures.1 in
-    let h =
-    refuses_slots _ c.args.slots c.in_err-used.field-0.0 c.from_residual-in_err-used.result c.in_err-used.ensures
-    (p.1 ∙ ap Err p.2)
-    in
-    record { answer = h.0; after = h.1 }
+pub returns-in_err-blocks-clause-after : goal.returns-in_err-blocks-clause-after
+unfolding created
+returns-in_err-blocks-clause-after g c = search rules
 
-pub returns-in_err-write : goal.returns-in_err-write
-returns-in_err-write g c =
-    let s =
-    begun (g.D.Device.means c.args.device.now).disk c.args.slots c.count.result c.in_ok-used.used c.in_ok-blocks.blocks c.count.ensures
-    c.in_ok-blocks.ensures c.in_ok-used.ensures
-    in
-    let p = err_from_is_err_and c.from_residual-in_err-write.result c.from_residual-in_err-write.ensures.1 in
-    let f = c.in_err-write.ensures in
-    let h =
-    died _ c.args.slots _ _ _ _ _ _ c.in_err-write.field-0.0 c.from_residual-in_err-write.result (c.to_block-generation.ensures ∙ ap bytes_of c.fresh.ensures) s f.answer f.after
-    (p.1 ∙ ap Err p.2)
-    in
-    record { answer = h.0; after = h.1 }
+pub returns-in_err-used-clause-answer : goal.returns-in_err-used-clause-answer
+unfolding create_answer
+returns-in_err-used-clause-answer g c = search rules
+
+pub returns-in_err-used-clause-after : goal.returns-in_err-used-clause-after
+unfolding created
+returns-in_err-used-clause-after g c = search rules
+
+pub returns-in_err-write-clause-answer : goal.returns-in_err-write-clause-answer
+unfolding create_answer writes_answer
+returns-in_err-write-clause-answer g c = search rules
+
+pub returns-in_err-write-clause-after : goal.returns-in_err-write-clause-after
+unfolding created writes_after written
+returns-in_err-write-clause-after g c = search rules
 
 pub returns-in_err-write-2 : goal.returns-in_err-write-2
 returns-in_err-write-2 g c =

@@ -1,19 +1,17 @@
-use Rattle.std.proofs.Common.{ℕ, true, List, Err, ap, ◌∙◌, arith}
-use Rattle.std.proofs.lemmas.Result.{err_from_is_err_and}
-use Rattle.card.specs.Rows.{row_answer}
-use Rattle.card.specs.Activities.{told, numbers_of}
-use Rattle.card.proofs.Activities.{answered}
+use Rattle.std.proofs.Common.{◌≡◌, Ok, rules}
+use Rattle.card.specs.Activities.{numbers_of, read_answer}
+use Rattle.card.proofs.Activities.{answered, all_small}
 use Rattle.card.proofs.activity.Activity.from_block.Goals as goal
 
-pub returns-in_err-get_row : goal.returns-in_err-get_row
-returns-in_err-get_row c =
-    let p = err_from_is_err_and c.from_residual.result c.from_residual.ensures.1 in
-    let l = ap (λ (z : List (ℕ × ℕ)). row_answer c.args.block.now z true) c.limits_at-limits.ensures in
-    let e = ap numbers_of (p.1 ∙ ap Err p.2) ∙ ap told (c.in_err-get_row.ensures ∙ l) in
-    record { answer = e; law = answered c.args.block.now c.args.slots c.args.blocks _ (omega arith) e }
+pub returns-in_err-slots : goal.returns-in_err-slots
+returns-in_err-slots c =
+    let e : numbers_of c.from_residual.result ≡ read_answer c.args.block.now c.args.slots c.args.blocks = search rules in
+    record { answer = e; law = answered c.args.block.now c.args.slots c.args.blocks _ e }
+
+pub invariant_of-result : goal.invariant_of-result
+invariant_of-result c = record { small = all_small c.args.block.now c.args.slots c.args.blocks c.limits_at.result c.in_ok-slots.slots c.ranges.blocks.fits c.limits_at.ensures c.in_ok-slots.ensures.answer }
 
 pub returns : goal.returns
 returns c =
-    let l = ap (λ (z : List (ℕ × ℕ)). row_answer c.args.block.now z true) c.limits_at-limits.ensures in
-    let e = ap told (c.in_ok-get_row.ensures ∙ l) in
-    record { answer = e; law = answered c.args.block.now c.args.slots c.args.blocks _ (omega arith) e }
+    let e : Ok c.in_ok-slots.slots ≡ read_answer c.args.block.now c.args.slots c.args.blocks = search rules in
+    record { answer = e; law = answered c.args.block.now c.args.slots c.args.blocks _ e }
