@@ -7,15 +7,16 @@ ghost use Rattle.memory.specs.Meaning.{meaning};
 ghost use Rattle.station.specs.Meaning.{Acts};
 
 use card::reading::read_card;
-use compare::{Node, Role};
+use compare::Role;
 use device::Device;
 use link::Link;
 use memory::Memory;
 use memory::generations::{demoted, founded, is_spent, promoted};
-use protocol::number_of;
 use refusal::Refusal;
-use station::Station;
-use station::storing::{data_blocks, keep_generation, store};
+use station::Seat;
+use station::storing::{BITMAP, data_blocks};
+
+// The tests stand one by one, each with its refusal: a table would work all of them out before the first is looked at.
 
 fn may_found(memory: &Memory) -> Result<(), Refusal>
     ensures { result ≡ granted (found_tests (meaning memory.now)) }
@@ -35,17 +36,11 @@ fn may_found(memory: &Memory) -> Result<(), Refusal>
     Ok(())
 }
 
-pub fn found<D: Device, E: Device, L: Link>(
-    node: Node,
-    me: &mut Station<D>,
-    peer: &mut Station<E>,
-    link: &mut L,
-) -> Result<(), Refusal>
-    ensures { Acts D.Device.means E.Device.means L.Link.means (found node) me.old peer.old link.old result me.new peer.new link.new }
+pub fn found<D: Device, E: Device, L: Link>(seat: &mut Seat<D, E, L>) -> Result<(), Refusal>
+    ensures { Acts D.Device.means E.Device.means L.Link.means found seat.old result seat.new }
 {
-    may_found(&me.memory)?;
-    let generation = founded(me.memory.generation, node);
-    keep_generation(node, me, peer, link, generation)
+    may_found(&seat.me.memory)?;
+    seat.keep_generation(founded(seat.me.memory.generation, seat.node))
 }
 
 fn may_promote(memory: &Memory) -> Result<(), Refusal>
@@ -69,18 +64,12 @@ fn may_promote(memory: &Memory) -> Result<(), Refusal>
     Ok(())
 }
 
-pub fn promote<D: Device, E: Device, L: Link>(
-    node: Node,
-    me: &mut Station<D>,
-    peer: &mut Station<E>,
-    link: &mut L,
-) -> Result<(), Refusal>
-    ensures { Acts D.Device.means E.Device.means L.Link.means (promote node) me.old peer.old link.old result me.new peer.new link.new }
+pub fn promote<D: Device, E: Device, L: Link>(seat: &mut Seat<D, E, L>) -> Result<(), Refusal>
+    ensures { Acts D.Device.means E.Device.means L.Link.means promote seat.old result seat.new }
 {
-    may_promote(&me.memory)?;
-    let generation = promoted(me.memory.generation, node);
-    keep_generation(node, me, peer, link, generation)?;
-    me.memory.role = Role::Primary;
+    may_promote(&seat.me.memory)?;
+    seat.keep_generation(promoted(seat.me.memory.generation, seat.node))?;
+    seat.me.memory.role = Role::Primary;
     Ok(())
 }
 
@@ -100,42 +89,29 @@ fn may_demote(memory: &Memory) -> Result<(), Refusal>
 }
 
 // The bitmap goes first, so that the card marks what the peer lacks before it says that no Primary was at work.
-pub fn demote<D: Device, E: Device, L: Link>(
-    node: Node,
-    me: &mut Station<D>,
-    peer: &mut Station<E>,
-    link: &mut L,
-) -> Result<(), Refusal>
-    ensures { Acts D.Device.means E.Device.means L.Link.means (demote node) me.old peer.old link.old result me.new peer.new link.new }
+pub fn demote<D: Device, E: Device, L: Link>(seat: &mut Seat<D, E, L>) -> Result<(), Refusal>
+    ensures { Acts D.Device.means E.Device.means L.Link.means demote seat.old result seat.new }
 {
-    may_demote(&me.memory)?;
-    let map = me.memory.bitmap;
-    store(node, me, peer, link, 2, map.as_bytes())?;
-    let generation = demoted(me.memory.generation);
-    keep_generation(node, me, peer, link, generation)?;
-    me.memory.role = Role::Secondary;
+    may_demote(&seat.me.memory)?;
+    let map = seat.me.memory.bitmap;
+    seat.store(BITMAP, map.as_bytes())?;
+    seat.keep_generation(demoted(seat.me.memory.generation))?;
+    seat.me.memory.role = Role::Secondary;
     Ok(())
 }
 
 // After a crash of a Primary the bitmap, with each extent that was active, is written before the node is up.
-pub fn start<D: Device, E: Device, L: Link>(
-    node: Node,
-    me: &mut Station<D>,
-    peer: &mut Station<E>,
-    link: &mut L,
-) -> Result<(), Refusal>
-    ensures { Acts D.Device.means E.Device.means L.Link.means (start node) me.old peer.old link.old result me.new peer.new link.new }
+pub fn start<D: Device, E: Device, L: Link>(seat: &mut Seat<D, E, L>) -> Result<(), Refusal>
+    ensures { Acts D.Device.means E.Device.means L.Link.means start seat.old result seat.new }
 {
-    if !me.memory.state.is_down() {
+    if !seat.me.memory.state.is_down() {
         return Err(Refusal::Up);
     }
-    let card = read_card(&me.device, number_of(node))?;
-    let memory = Memory::started(&card, data_blocks(&me.device));
-    if !card.generation.primary {
-        me.memory = memory;
-        return Ok(());
+    let card = read_card(&seat.me.device, seat.node.into())?;
+    let memory = Memory::started(&card, data_blocks(&seat.me.device));
+    if card.generation.primary {
+        seat.store(BITMAP, memory.bitmap.as_bytes())?;
     }
-    store(node, me, peer, link, 2, memory.bitmap.as_bytes())?;
-    me.memory = memory;
+    seat.me.memory = memory;
     Ok(())
 }

@@ -1,10 +1,10 @@
-// The generation record at each step that takes a new identifier or changes a flag.
+// The generation record at each step that takes a new identifier or changes a flag. The record is the card's, and the steps
+// are not: so they are functions beside it.
 ghost use Rattle.std.specs.Prelude.{◌≡◌};
 ghost use Rattle.protocol.specs.Changes.{spent, advanced, founded, promoted, demoted};
 
 use card::generation::Generation;
 use compare::Node;
-use protocol::number_of;
 
 // No identifier is left.
 pub fn is_spent(generation: &Generation) -> bool
@@ -14,44 +14,48 @@ pub fn is_spent(generation: &Generation) -> bool
 }
 
 // The first generation of a card.
-pub fn founded(generation: Generation, node: Node) -> Generation
+pub fn founded(mut generation: Generation, node: Node) -> Generation
     ensures { result ≡ founded node generation }
 {
-    let mut next = generation;
-    if let Some(identifier) = next.next_identifier(number_of(node)) {
-        next.current = identifier;
+    if let Some(identifier) = generation.next_identifier(usize::from(node)) {
+        generation.current = identifier;
     }
-    next.consistent = true;
-    next
+    Generation {
+        consistent: true,
+        ..generation
+    }
 }
 
 // The next generation, from which on the bitmap counts what the node writes alone.
-pub fn advanced(generation: Generation, node: Node) -> Generation
+pub fn advanced(mut generation: Generation, node: Node) -> Generation
     ensures { result ≡ advanced node generation }
 {
-    let mut next = generation;
-    if let Some(identifier) = next.next_identifier(number_of(node)) {
-        next.bitmap = next.current;
-        next.current = identifier;
+    if let Some(identifier) = generation.next_identifier(usize::from(node)) {
+        generation.bitmap = generation.current;
+        generation.current = identifier;
     }
-    next
+    generation
 }
 
 pub fn promoted(generation: Generation, node: Node) -> Generation
     ensures { result ≡ promoted node generation }
 {
-    let mut next = generation;
-    if generation.bitmap == 0 {
-        next = advanced(generation, node);
+    let next = if generation.bitmap == 0 {
+        advanced(generation, node)
+    } else {
+        generation
+    };
+    Generation {
+        primary: true,
+        ..next
     }
-    next.primary = true;
-    next
 }
 
 pub fn demoted(generation: Generation) -> Generation
     ensures { result ≡ demoted generation }
 {
-    let mut next = generation;
-    next.primary = false;
-    next
+    Generation {
+        primary: false,
+        ..generation
+    }
 }

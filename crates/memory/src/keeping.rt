@@ -1,11 +1,10 @@
 // What is done with a node's memory.
-ghost use Rattle.std.specs.Prelude.{◌≡◌, ◌&&◌, nat_lt};
-ghost use Rattle.card.specs.Activities.{extent_in};
+ghost use Rattle.std.specs.Prelude.{◌≡◌};
 ghost use Rattle.card.specs.Reading.{contents};
 ghost use Rattle.protocol.specs.World.{nothing};
 ghost use Rattle.protocol.specs.Rules.{parted, goes_on, started, without_oldest};
-ghost use Rattle.protocol.specs.Activation.{idle, slot_of, vacant_slot, idle_place, count_of, placement_of, activated};
-ghost use Rattle.memory.specs.Meaning.{meaning};
+ghost use Rattle.protocol.specs.Activation.{slot_of, vacant_slot, idle_place, placement_of, activated};
+ghost use Rattle.memory.specs.Meaning.{meaning, slots_used, is_idle, can_give_up};
 ghost use Rattle.records.specs.Kept.{kept};
 
 use crate::Memory;
@@ -50,15 +49,10 @@ impl Memory {
         }
         Memory {
             state: State::Apart,
-            role: Role::Secondary,
             generation: card.generation,
             activity: card.activity,
             bitmap,
-            recency: Recency::in_turn(),
-            records: Records::none(),
-            number: 1,
-            copied: 0,
-            full: false,
+            ..Memory::none()
         }
     }
 
@@ -80,7 +74,7 @@ impl Memory {
 
     // How many slots of the activity record are in use.
     fn slot_count(&self) -> usize
-        ensures { result ≡ count_of (meaning self.now) }
+        ensures { result ≡ slots_used self.now }
     {
         (self.generation.slots as usize).min(SLOTS)
     }
@@ -88,71 +82,53 @@ impl Memory {
     fn slot_of(&self, extent: usize) -> Option<usize>
         ensures { result ≡ slot_of self.now.activity.slots extent }
     {
-        for slot in 0..SLOTS {
-            if let Some(held) = self.activity.extent_in(slot) {
-                if held as usize == extent {
-                    return Some(slot);
-                }
-            }
-        }
-        None
+        (0..SLOTS).find(|&slot| {
+            self.activity
+                .extent_in(slot)
+                .is_some_and(|held| held as usize == extent)
+        })
     }
 
     fn vacant_slot(&self) -> Option<usize>
-        ensures { result ≡ vacant_slot self.now.activity.slots (count_of (meaning self.now)) }
+        ensures { result ≡ vacant_slot self.now.activity.slots (slots_used self.now) }
     {
-        for slot in 0..self.slot_count() {
-            if self.activity.extent_in(slot).is_none() {
-                return Some(slot);
-            }
-        }
-        None
+        (0..self.slot_count()).find(|&slot| self.activity.extent_in(slot).is_none())
     }
 
     // Whether no write waits in the slot's extent.
     fn is_idle(&self, slot: usize) -> bool
-        ensures { result ≡ idle (kept self.now.records) (extent_in self.now.activity.slots slot) }
+        ensures { result ≡ is_idle self.now slot }
     {
-        match self.activity.extent_in(slot) {
-            Some(extent) => !self.records.any_waiting_in(extent as usize),
-            None => true,
-        }
+        self.activity
+            .extent_in(slot)
+            .is_none_or(|extent| !self.records.any_waiting_in(extent as usize))
     }
 
     fn can_give_up(&self, slot: usize) -> bool
-        ensures { result ≡ (nat_lt slot (count_of (meaning self.now)) && idle (kept self.now.records) (extent_in self.now.activity.slots slot)) }
+        ensures { result ≡ can_give_up self.now slot }
     {
         slot < self.slot_count() && self.is_idle(slot)
     }
 
     // The place, in the order of use, of the least recent slot that can be given up.
     fn idle_place(&self) -> Option<usize>
-        ensures { result ≡ idle_place self.now.activity.slots (count_of (meaning self.now)) self.now.recency.order (kept self.now.records) }
+        ensures { result ≡ idle_place self.now.activity.slots (slots_used self.now) self.now.recency.order (kept self.now.records) }
     {
-        for place in 0..SLOTS {
-            if self.can_give_up(self.recency.slot_at(place)) {
-                return Some(place);
-            }
-        }
-        None
+        (0..SLOTS).find(|&place| self.can_give_up(self.recency.slot_at(place)))
     }
 
     // Where an extent's slot is, or is to be; none where each slot's extent has a waiting write.
     pub fn placement(&self, extent: usize) -> Option<Placement>
         ensures { result ≡ placement_of (meaning self.now) extent }
     {
-        if let Some(slot) = self.slot_of(extent) {
-            return Some(Placement::Active { slot });
-        }
-        if let Some(slot) = self.vacant_slot() {
-            return Some(Placement::Vacant { slot });
-        }
-        match self.idle_place() {
-            Some(place) => Some(Placement::GivenUp {
-                slot: self.recency.slot_at(place),
-            }),
-            None => None,
-        }
+        self.slot_of(extent)
+            .map(|slot| Placement::Active { slot })
+            .or_else(|| self.vacant_slot().map(|slot| Placement::Vacant { slot }))
+            .or_else(|| {
+                self.idle_place().map(|place| Placement::GivenUp {
+                    slot: self.recency.slot_at(place),
+                })
+            })
     }
 
     // The activity record as it now is on the card, with a slot that has become the most recent.

@@ -26,7 +26,7 @@ pub struct Memory {
     pub records: Records,
     // The number of the next write.
     pub number: u32,
-    // The next block to copy, and whether all blocks are to be copied.
+    // The next block to copy, and whether all blocks are to be copied: two facts of a copy, neither of which says if the other counts.
     pub copied: usize,
     pub full: bool,
 }

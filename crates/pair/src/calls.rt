@@ -2,7 +2,7 @@
 ghost use Rattle.std.specs.Prelude.{◌≡◌};
 ghost use Rattle.protocol.specs.Step.{said, said_done, numbered, filled, collected, standing, read_by};
 ghost use Rattle.protocol.specs.Step as call;
-ghost use Rattle.protocol.specs.Rules.{node_numbered};
+ghost use Rattle.compare.specs.Nodes.{node_numbered};
 ghost use Rattle.pair.specs.Meaning.{Does, world};
 
 use crate::Pair;
@@ -10,17 +10,19 @@ use compare::Node;
 use device::Device;
 use founding::{demote, found, promote, start};
 use link::Link;
-use protocol::{Collected, Status, node_numbered};
+use protocol::{Collected, Status};
 use refusal::Refusal;
-use station::storing::kill;
+use station::Seat;
 use writing::write;
 
-// A call from the side of the node of a number.
+// The two stations differ in type, so no closure can take either: a call on one of them is a macro.
+
+// A call from the seat of the node of a number.
 macro_rules! from_node {
-    ($pair:ident, $number:expr, $call:ident $(, $argument:expr)*) => {
-        match node_numbered($number)? {
-            Node::Zero => $call(Node::Zero, &mut $pair.zero, &mut $pair.one, &mut $pair.link $(, $argument)*),
-            Node::One => $call(Node::One, &mut $pair.one, &mut $pair.zero, &mut $pair.link $(, $argument)*),
+    ($pair:ident, $number:expr, $call:path $(, $argument:expr)*) => {
+        match Node::try_from($number)? {
+            Node::Zero => $call(&mut Seat::new(Node::Zero, &mut $pair.zero, &mut $pair.one, &mut $pair.link) $(, $argument)*),
+            Node::One => $call(&mut Seat::new(Node::One, &mut $pair.one, &mut $pair.zero, &mut $pair.link) $(, $argument)*),
         }
     };
 }
@@ -28,7 +30,7 @@ macro_rules! from_node {
 // A call that concerns the node of a number alone.
 macro_rules! on_node {
     ($pair:ident, $number:expr, $call:ident $(, $argument:expr)*) => {
-        match node_numbered($number)? {
+        match Node::try_from($number)? {
             Node::Zero => $pair.zero.$call($($argument),*),
             Node::One => $pair.one.$call($($argument),*),
         }
@@ -47,7 +49,7 @@ impl<A: Device, B: Device, L: Link> Pair<A, B, L> {
     pub fn kill(&mut self, node: usize) -> Result<(), Refusal>
         ensures { Does A.Device.means B.Device.means L.Link.means (call.kill node) self.old (said_done result) self.new }
     {
-        from_node!(self, node, kill)
+        from_node!(self, node, Seat::kill)
     }
 
     pub fn start(&mut self, node: usize) -> Result<(), Refusal>
@@ -112,9 +114,6 @@ impl<A: Device, B: Device, L: Link> Pair<A, B, L> {
     pub fn status(&self, node: usize) -> Result<Status, Refusal>
         ensures { Does A.Device.means B.Device.means L.Link.means (call.status node) self.now (said standing result) self.now }
     {
-        match node_numbered(node)? {
-            Node::Zero => Ok(self.zero.status()),
-            Node::One => Ok(self.one.status()),
-        }
+        Ok(on_node!(self, node, status))
     }
 }

@@ -6,29 +6,21 @@ use crate::{Pair, Unpaired};
 use card::making::data_blocks;
 use device::Device;
 use link::Link;
-use memory::Memory;
 use station::Station;
 
 impl<A: Device, B: Device, L: Link> Pair<A, B, L> {
     // Two devices of equal count, 4 to 4,099 blocks, and a link, which is cut; nothing is read from the devices. What does not fit is
     // handed back, which counts as refusal 2.
-    pub fn new(zero: A, one: B, link: L) -> Result<Pair<A, B, L>, Unpaired<A, B, L>>
+    pub fn new(zero: A, one: B, mut link: L) -> Result<Pair<A, B, L>, Unpaired<A, B, L>>
         ensures { Makes A.Device.means B.Device.means L.Link.means zero one link result }
     {
         if zero.count() != one.count() || data_blocks(zero.count()).is_err() {
             return Err(Unpaired { zero, one, link });
         }
-        let mut link = link;
         link.cut();
         Ok(Pair {
-            zero: Station {
-                memory: Memory::none(),
-                device: zero,
-            },
-            one: Station {
-                memory: Memory::none(),
-                device: one,
-            },
+            zero: Station::down(zero),
+            one: Station::down(one),
             link,
         })
     }
@@ -37,15 +29,6 @@ impl<A: Device, B: Device, L: Link> Pair<A, B, L> {
     pub fn into_parts(self) -> (A, B, L)
         ensures { (result.0 ≡ self.zero.device) × ((result.1 ≡ self.one.device) × (result.2 ≡ self.link)) }
     {
-        let Pair { zero, one, link } = self;
-        let Station {
-            memory: _,
-            device: zero,
-        } = zero;
-        let Station {
-            memory: _,
-            device: one,
-        } = one;
-        (zero, one, link)
+        (self.zero.device, self.one.device, self.link)
     }
 }

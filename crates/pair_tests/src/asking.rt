@@ -1,7 +1,6 @@
 // What the tables ask of a pair, and what is answered.
 use card::generation::Generation;
 use card::making::create;
-use compare::Role;
 use device::Device;
 use device::flat::Flat;
 use device::image::Image;
@@ -9,7 +8,7 @@ use link::Link;
 use link::hop::Hop;
 use link::slot::SlotLink;
 use pair::Pair;
-use protocol::{Standing, State};
+use protocol::{Collected, Standing, State, Status};
 use refusal::Refusal;
 use std::alloc::Global;
 use std::process::Abort;
@@ -19,6 +18,9 @@ use std::test::Fail;
 const COUNT: usize = 260;
 
 const SLOTS: usize = 4;
+
+// What a buffer holds before a read.
+const UNREAD: u8 = 0xEE;
 
 #[derive(Clone, Copy)]
 pub enum Ask {
@@ -54,39 +56,42 @@ pub enum Told {
     Meta(usize, usize),
 }
 
-fn refused(refusal: Refusal) -> Told {
-    match refusal {
-        Refusal::Meta { block, byte, .. } => Told::Meta(block, byte),
-        _ => Told::Refused(refusal.number()),
+impl From<()> for Told {
+    fn from(_done: ()) -> Told {
+        Told::Done
     }
 }
 
-fn done(answer: Result<(), Refusal>) -> Told {
-    match answer {
-        Ok(()) => Told::Done,
-        Err(refusal) => refused(refusal),
+impl From<u32> for Told {
+    fn from(number: u32) -> Told {
+        Told::Number(number)
     }
 }
 
-fn part(buffer: &[u8], length: usize) -> &[u8] {
-    if length <= buffer.len() {
-        &buffer[0..length]
-    } else {
-        buffer
+impl From<Collected> for Told {
+    fn from(write: Collected) -> Told {
+        Told::Collected(write.number, write.standing)
     }
 }
 
-fn write<A: Device, B: Device, L: Link>(
-    pair: &mut Pair<A, B, L>,
-    node: usize,
-    block: usize,
-    fill: u8,
-    length: usize,
-) -> Told {
-    let buffer = [fill; 513];
-    match pair.write(node, block, part(&buffer, length)) {
-        Ok(number) => Told::Number(number),
-        Err(refusal) => refused(refusal),
+impl From<Status> for Told {
+    fn from(status: Status) -> Told {
+        Told::Status(status.state.number(), status.role.is_primary())
+    }
+}
+
+impl From<Refusal> for Told {
+    fn from(refusal: Refusal) -> Told {
+        match refusal {
+            Refusal::Meta { block, byte, .. } => Told::Meta(block, byte),
+            _ => Told::Refused(refusal.number()),
+        }
+    }
+}
+
+impl<T: Into<Told>> From<Result<T, Refusal>> for Told {
+    fn from(answer: Result<T, Refusal>) -> Told {
+        answer.map_or_else(Told::from, T::into)
     }
 }
 
@@ -97,82 +102,52 @@ fn read<A: Device, B: Device, L: Link>(
     block: usize,
     length: usize,
 ) -> Told {
-    let mut whole = [0xEEu8; 512];
-    let mut short = [0xEEu8; 511];
-    let answer = if length == 512 {
-        pair.read(node, block, &mut whole)
-    } else {
-        pair.read(node, block, &mut short)
-    };
+    let mut buffer = [UNREAD; 512];
+    let answer = pair.read(node, block, &mut buffer[..length.min(512)]);
     match answer {
-        Ok(()) => Told::Byte(whole[0]),
-        Err(refusal) => {
-            if whole[0] == 0xEE && short[0] == 0xEE {
-                refused(refusal)
-            } else {
-                Told::Byte(whole[0])
-            }
-        }
+        Err(refusal) if buffer.iter().all(|&b| b == UNREAD) => refusal.into(),
+        _ => Told::Byte(buffer[0]),
     }
 }
 
-fn collect<A: Device, B: Device, L: Link>(pair: &mut Pair<A, B, L>, node: usize) -> Told {
-    match pair.collect(node) {
-        Ok(write) => Told::Collected(write.number, write.standing),
-        Err(refusal) => refused(refusal),
-    }
-}
-
-fn status<A: Device, B: Device, L: Link>(pair: &Pair<A, B, L>, node: usize) -> Told {
-    match pair.status(node) {
-        Ok(status) => Told::Status(status.state.number(), status.role.is_primary()),
-        Err(refusal) => refused(refusal),
-    }
-}
-
-// A byte of a block of the device; 0xEE where there is none.
+// A byte of a block of the device; UNREAD where there is none.
 fn byte_of<D: Device>(device: &D, block: usize, byte: usize) -> Told {
-    let mut bytes = [0xEEu8; 512];
-    match device.read(block, &mut bytes) {
-        Ok(()) if byte < 512 => Told::Byte(bytes[byte]),
-        _ => Told::Byte(0xEE),
-    }
+    let mut bytes = [UNREAD; 512];
+    let _ = device.read(block, &mut bytes);
+    Told::Byte(bytes.get(byte).copied().unwrap_or(UNREAD))
 }
 
-fn damage<D: Device>(device: &mut D, block: usize, fill: u8) -> Told {
-    match device.write(block, &[fill; 512]) {
-        Ok(()) => Told::Done,
-        Err(_) => Told::Refused(0),
-    }
+fn put<D: Device>(device: &mut D, block: usize, bytes: &[u8]) -> Told {
+    device.write(block, bytes).map_err(Refusal::from).into()
 }
 
-// A card whose last identifier is given out: consistent, and never founded.
-fn spend<D: Device>(device: &mut D) -> Told {
+// A generation whose last identifier is given out: consistent, and never founded.
+fn spent() -> [u8; 512] {
     let mut generation = Generation::fresh(4, 257);
     generation.serial = 999_999_999;
     generation.consistent = true;
-    match device.write(0, &generation.to_block()) {
-        Ok(()) => Told::Done,
-        Err(_) => Told::Refused(0),
-    }
+    generation.to_block()
 }
 
 fn answer_to<A: Device, B: Device, L: Link>(pair: &mut Pair<A, B, L>, what: Ask) -> Told {
     match what {
-        Ask::Power(node, supply) => done(pair.power(node, supply)),
-        Ask::Kill(node) => done(pair.kill(node)),
-        Ask::Start(node) => done(pair.start(node)),
-        Ask::Found(node) => done(pair.found(node)),
-        Ask::Promote(node) => done(pair.promote(node)),
-        Ask::Demote(node) => done(pair.demote(node)),
-        Ask::Cut => done(pair.cut()),
-        Ask::Write(node, block, fill, length) => write(pair, node, block, fill, length),
+        Ask::Power(node, supply) => pair.power(node, supply).into(),
+        Ask::Kill(node) => pair.kill(node).into(),
+        Ask::Start(node) => pair.start(node).into(),
+        Ask::Found(node) => pair.found(node).into(),
+        Ask::Promote(node) => pair.promote(node).into(),
+        Ask::Demote(node) => pair.demote(node).into(),
+        Ask::Cut => pair.cut().into(),
+        Ask::Write(node, block, fill, length) => {
+            pair.write(node, block, &[fill; 513][..length.min(513)])
+                .into()
+        }
         Ask::Read(node, block, length) => read(pair, node, block, length),
-        Ask::Collect(node) => collect(pair, node),
-        Ask::Status(node) => status(pair, node),
+        Ask::Collect(node) => pair.collect(node).into(),
+        Ask::Status(node) => pair.status(node).into(),
         Ask::Card(block, byte) => byte_of(&pair.zero.device, block, byte),
-        Ask::Damage(block, fill) => damage(&mut pair.zero.device, block, fill),
-        Ask::Spend => spend(&mut pair.zero.device),
+        Ask::Damage(block, fill) => put(&mut pair.zero.device, block, &[fill; 512]),
+        Ask::Spend => put(&mut pair.zero.device, 0, &spent()),
         Ask::Enter(state) => {
             pair.zero.memory.state = state;
             pair.link.open();
@@ -186,37 +161,37 @@ fn follow<A: Device, B: Device, L: Link>(
     pair: &mut Pair<A, B, L>,
     table: &[(Ask, Told)],
 ) {
-    for row in table.iter() {
-        let (what, answer) = *row;
+    for &(what, answer) in table {
         assert_eq!(rt; answer_to(pair, what), answer);
     }
 }
 
-// Follows the table on a pair of newly created cards.
+// Follows the tables, one after the other, on a pair of newly created cards.
 fn on_new_cards<A: Device + Drop, B: Device + Drop, L: Link + Drop>(
     rt: &impl Abort,
-    zero: A,
-    one: B,
+    mut zero: A,
+    mut one: B,
     link: L,
-    table: &[(Ask, Told)],
+    tables: &[&[(Ask, Told)]],
 ) -> Result<(), Fail> {
-    let mut zero = zero;
-    let mut one = one;
     assert!(rt; create(&mut zero, SLOTS).is_ok());
     assert!(rt; create(&mut one, SLOTS).is_ok());
     let Ok(mut pair) = Pair::new(zero, one, link) else {
         return Err(Fail::new("no pair"));
     };
-    follow(rt, &mut pair, table);
-    let (zero, one, link) = pair.into_parts();
-    drop(zero);
-    drop(one);
-    drop(link);
+    for table in tables {
+        follow(rt, &mut pair, table);
+    }
+    drop(pair.into_parts());
     Ok(())
 }
 
 // The same answers over flat cards with a slot link, and over image cards with a hop.
-pub fn over_all_makes(rt: &impl Abort, heap: Global, table: &[(Ask, Told)]) -> Result<(), Fail> {
+pub fn over_all_makes(
+    rt: &impl Abort,
+    heap: Global,
+    tables: &[&[(Ask, Told)]],
+) -> Result<(), Fail> {
     let mut first = vec![in heap; 0u8; COUNT * 512]?;
     let mut second = vec![in heap; 0u8; COUNT * 512]?;
     let (Ok(zero), Ok(one)) = (
@@ -225,7 +200,7 @@ pub fn over_all_makes(rt: &impl Abort, heap: Global, table: &[(Ask, Told)]) -> R
     ) else {
         return Err(Fail::new("no flat cards"));
     };
-    on_new_cards(rt, zero, one, SlotLink::new(), table)?;
+    on_new_cards(rt, zero, one, SlotLink::new(), tables)?;
     let factory = vec![in heap; 0u8; COUNT * 512]?;
     let mut first = vec![in heap; 0u8; COUNT * 513]?;
     let mut second = vec![in heap; 0u8; COUNT * 513]?;
@@ -238,5 +213,5 @@ pub fn over_all_makes(rt: &impl Abort, heap: Global, table: &[(Ask, Told)]) -> R
     let Ok(hop) = Hop::new(SlotLink::new()) else {
         return Err(Fail::new("no hop"));
     };
-    on_new_cards(rt, zero, one, hop, table)
+    on_new_cards(rt, zero, one, hop, tables)
 }

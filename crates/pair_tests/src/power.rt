@@ -132,21 +132,18 @@ const GIVEN_UP: [[(Ask, Told); 8]; 4] = [
 
 #[test]
 fn at_the_writes_of_a_generation(rt: HostRuntime) -> Result<(), Fail> {
-    over_all_makes(&rt, rt.alloc(), &GENERATION)
+    over_all_makes(&rt, rt.alloc(), &[&GENERATION])
 }
 
 #[test]
 fn at_a_write_into_a_vacant_slot(rt: HostRuntime) -> Result<(), Fail> {
-    over_all_makes(&rt, rt.alloc(), &VACANT)
+    over_all_makes(&rt, rt.alloc(), &[&VACANT])
 }
 
 #[test]
 fn at_a_write_that_gives_up_a_slot(rt: HostRuntime) -> Result<(), Fail> {
     for writes in GIVEN_UP.iter() {
-        let mut table = [(Ask::Cut, Told::Done); 16];
-        table[0..8].copy_from_slice(&FILLED);
-        table[8..16].copy_from_slice(writes);
-        over_all_makes(&rt, rt.alloc(), &table)?;
+        over_all_makes(&rt, rt.alloc(), &[&FILLED, writes])?;
     }
     Ok(())
 }

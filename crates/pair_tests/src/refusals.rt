@@ -119,20 +119,20 @@ const CONNECTED: [(Ask, Told); 34] = [
 
 #[test]
 fn a_node_that_is_down(rt: HostRuntime) -> Result<(), Fail> {
-    over_all_makes(&rt, rt.alloc(), &DOWN)
+    over_all_makes(&rt, rt.alloc(), &[&DOWN])
 }
 
 #[test]
 fn a_node_with_no_peer(rt: HostRuntime) -> Result<(), Fail> {
-    over_all_makes(&rt, rt.alloc(), &APART)
+    over_all_makes(&rt, rt.alloc(), &[&APART])
 }
 
 #[test]
 fn spent_identifiers_and_damaged_cards(rt: HostRuntime) -> Result<(), Fail> {
-    over_all_makes(&rt, rt.alloc(), &CARDS)
+    over_all_makes(&rt, rt.alloc(), &[&CARDS])
 }
 
 #[test]
 fn states_that_a_peer_leads_to(rt: HostRuntime) -> Result<(), Fail> {
-    over_all_makes(&rt, rt.alloc(), &CONNECTED)
+    over_all_makes(&rt, rt.alloc(), &[&CONNECTED])
 }

@@ -4,8 +4,9 @@ use Rattle.device.specs.Disk.{Disk}
 use Rattle.card.specs.declared.generation.Generation.{Generation}
 use Rattle.compare.specs.declared.Node.{Node}
 use Rattle.compare.specs.declared.side.Role.{Role}
+use Rattle.compare.specs.Nodes.{number_of}
 use Rattle.link.specs.Channel.{Channel}
-use Rattle.protocol.specs.World.{Memory, World, number_of}
+use Rattle.protocol.specs.World.{Memory, World}
 
 -- ---- the acting node
 

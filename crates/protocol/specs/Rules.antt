@@ -18,6 +18,7 @@ use Rattle.message.specs.Messages.{says}
 use Rattle.compare.specs.declared.Node.{Node}
 use Rattle.compare.specs.declared.Node.TheVariants.{Zero, One}
 use Rattle.compare.specs.declared.side.Role.TheVariants.{Primary, Secondary}
+use Rattle.compare.specs.Nodes.{number_of}
 use Rattle.compare.specs.Laws.{other}
 use Rattle.compare.specs.Sides.{is_primary}
 use Rattle.protocol.specs.declared.State.TheVariants.{Apart}
@@ -28,7 +29,7 @@ use Rattle.protocol.specs.declared.Status.{Status}
 use Rattle.protocol.specs.declared.Placement.{Placement}
 use Rattle.protocol.specs.declared.Placement.TheVariants.{Active, Vacant, GivenUp}
 use Rattle.protocol.specs.Words.{is_down, is_apart, connected, compares, mirrors, waits}
-use Rattle.protocol.specs.World.{Memory, Site, World, number_of, way_from, data_blocks, in_turn, nothing, turned}
+use Rattle.protocol.specs.World.{Memory, Site, World, way_from, data_blocks, in_turn, nothing, turned}
 use Rattle.protocol.specs.Changes.{with_memory, with_disk, with_link, holding, with_generation, with_role, spent, advanced, founded, promoted, demoted}
 use Rattle.protocol.specs.Activation.{extent_of, any_of, waiting, ended, marking, eight, with_record, placement_of, activated}
 
@@ -357,9 +358,6 @@ abbrev pub status : Memory → Status
 status m = record { state = m.state; role = m.role }
 
 -- ---- which node
-
-abbrev pub node_numbered : ℕ → Result Node Refusal
-node_numbered number = cond (number == 0) (Ok Zero) (cond (number == 1) (Ok One) (Err refused.Node))
 
 -- the pair, given as node 0 sees it, as a node sees it, and back
 abbrev pub seen_by : Node → World → World

@@ -3,11 +3,12 @@ use Rattle.std.specs.Prelude.{ℕ, List, Ok, Err, Result}
 use Rattle.refusal.specs.declared.Refusal.{Refusal}
 use Rattle.compare.specs.declared.Node.{Node}
 use Rattle.compare.specs.declared.Node.TheVariants.{Zero}
+use Rattle.compare.specs.Nodes.{node_numbered}
 use Rattle.protocol.specs.declared.Collected.{Collected}
 use Rattle.protocol.specs.declared.Status.{Status}
 use Rattle.protocol.specs.World.{World}
 use Rattle.protocol.specs.Rules as rule
-use Rattle.protocol.specs.Rules.{Outcome, by_itself, node_numbered, seen_by, called}
+use Rattle.protocol.specs.Rules.{Outcome, by_itself, seen_by, called}
 
 pub data Call : Type 0 where
   power : ℕ → ℕ → Call

@@ -51,10 +51,6 @@ turned w = record { me = w.peer; peer = w.me; link = w.link }
 
 -- ---- the two nodes
 
-abbrev pub number_of : Node → ℕ
-number_of Zero = 0
-number_of One = 1
-
 -- the way on which a node sends
 abbrev pub way_from : Node → Way
 way_from Zero = ZeroToOne

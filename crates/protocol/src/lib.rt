@@ -2,49 +2,37 @@
 // The rules of the calls stand in specs/: `Rules` has one definition for each call, `World` what they speak of.
 #![tactic(auto)]
 
-ghost use Rattle.std.specs.Prelude.{◌≡◌};
+ghost use Rattle.std.specs.Prelude.{◌≡◌, Some};
 ghost use Rattle.protocol.specs.Words.{state_number, state_name, standing_name, is_down, is_apart, connected, compares, mirrors, waits};
-ghost use Rattle.protocol.specs.World.{number_of, way_from};
-ghost use Rattle.protocol.specs.Rules.{node_numbered};
-ghost use Rattle.compare.specs.Laws.{other};
+ghost use Rattle.protocol.specs.World.{way_from};
+ghost use Rattle.protocol.specs.Rules.{handed};
 
 use compare::{Node, Role};
 use link::Way;
-use refusal::Refusal;
+use std::fmt;
 
 #[derive(Clone, Copy, PartialEq, Eq, Debug)]
 pub enum State {
-    Down,
+    Down = 0,
     // Up, with no peer connected.
-    Apart,
+    Apart = 1,
     // The comparing states: who copies to whom is being found out.
-    Comparing,
-    AwaitBits,
-    AwaitStart,
+    Comparing = 2,
+    AwaitBits = 3,
+    AwaitStart = 4,
     // The source of a copy: before it, at it, and after its last block.
-    Starting,
-    Source,
-    Ending,
-    Target,
-    Joined,
+    Starting = 5,
+    Source = 6,
+    Ending = 7,
+    Target = 8,
+    Joined = 9,
 }
 
 impl State {
     pub fn number(self) -> u8
         ensures { result ≡ state_number self }
     {
-        match self {
-            State::Down => 0,
-            State::Apart => 1,
-            State::Comparing => 2,
-            State::AwaitBits => 3,
-            State::AwaitStart => 4,
-            State::Starting => 5,
-            State::Source => 6,
-            State::Ending => 7,
-            State::Target => 8,
-            State::Joined => 9,
-        }
+        self as u8
     }
 
     pub fn name(self) -> &'static str
@@ -67,47 +55,46 @@ impl State {
     pub fn is_down(self) -> bool
         ensures { result ≡ is_down self }
     {
-        match self {
-            State::Down => true,
-            _ => false,
-        }
+        self == State::Down
     }
 
     pub fn is_apart(self) -> bool
         ensures { result ≡ is_apart self }
     {
-        match self {
-            State::Apart => true,
-            _ => false,
-        }
+        self == State::Apart
     }
 
     pub fn is_connected(self) -> bool
         ensures { result ≡ connected self }
     {
-        match self {
-            State::Down | State::Apart => false,
-            _ => true,
-        }
+        !matches!(self, State::Down | State::Apart)
     }
 
     pub fn is_comparing(self) -> bool
         ensures { result ≡ compares self }
     {
-        match self {
-            State::Comparing | State::AwaitBits | State::AwaitStart => true,
-            _ => false,
-        }
+        matches!(
+            self,
+            State::Comparing | State::AwaitBits | State::AwaitStart
+        )
     }
 
     // In these states a write goes to the peer as well.
     pub fn is_mirroring(self) -> bool
         ensures { result ≡ mirrors self }
     {
-        match self {
-            State::Starting | State::Source | State::Ending | State::Joined => true,
-            _ => false,
-        }
+        matches!(
+            self,
+            State::Starting | State::Source | State::Ending | State::Joined
+        )
+    }
+}
+
+impl fmt::Display for State {
+    ghost output = { λ state. Some (state_name state) };
+
+    fn fmt<W: fmt::Write>(&self, f: &mut fmt::Formatter<W>) -> fmt::Result {
+        f.write_str(self.name())
     }
 }
 
@@ -133,10 +120,15 @@ impl Standing {
     pub fn is_waiting(self) -> bool
         ensures { result ≡ waits self }
     {
-        match self {
-            Standing::Waiting => true,
-            Standing::Alone | Standing::Both => false,
-        }
+        self == Standing::Waiting
+    }
+}
+
+impl fmt::Display for Standing {
+    ghost output = { λ standing. Some (standing_name standing) };
+
+    fn fmt<W: fmt::Write>(&self, f: &mut fmt::Formatter<W>) -> fmt::Result {
+        f.write_str(self.name())
     }
 }
 
@@ -148,11 +140,22 @@ pub struct WriteRecord {
     pub standing: Standing,
 }
 
-// What `collect` answers.
+// What `collect` answers: the record without its block.
 #[derive(Clone, Copy, PartialEq, Eq, Debug)]
 pub struct Collected {
     pub number: u32,
     pub standing: Standing,
+}
+
+impl From<WriteRecord> for Collected {
+    ghost from_gives = { λ r c. c ≡ handed r };
+
+    fn from(record: WriteRecord) -> Collected {
+        Collected {
+            number: record.number,
+            standing: record.standing,
+        }
+    }
 }
 
 // Where a write's extent stands among the slots of the activity record, or is to stand.
@@ -165,42 +168,13 @@ pub enum Placement {
 }
 
 // What `status` answers.
-#[derive(Clone, Copy)]
+#[derive(Clone, Copy, PartialEq, Eq, Debug)]
 pub struct Status {
     pub state: State,
     pub role: Role,
 }
 
-// The node of a number, as the calls are given it.
-pub fn node_numbered(number: usize) -> Result<Node, Refusal>
-    ensures { result ≡ node_numbered number }
-{
-    match number {
-        0 => Ok(Node::Zero),
-        1 => Ok(Node::One),
-        _ => Err(Refusal::Node),
-    }
-}
-
-pub fn number_of(node: Node) -> usize
-    ensures { result ≡ number_of node }
-{
-    match node {
-        Node::Zero => 0,
-        Node::One => 1,
-    }
-}
-
-pub fn peer_of(node: Node) -> Node
-    ensures { result ≡ other node }
-{
-    match node {
-        Node::Zero => Node::One,
-        Node::One => Node::Zero,
-    }
-}
-
-// The way on which a node sends.
+// The way on which a node sends. Both types are other crates', so no From between them can stand here.
 pub fn way_from(node: Node) -> Way
     ensures { result ≡ way_from node }
 {

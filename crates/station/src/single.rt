@@ -1,12 +1,14 @@
 // The calls that concern one node alone.
 ghost use Rattle.std.specs.Prelude.{◌≡◌};
+ghost use Rattle.protocol.specs.World.{nothing};
 ghost use Rattle.protocol.specs.Rules.{power, granted, read_tests, read, collect, status};
 ghost use Rattle.memory.specs.Meaning.{meaning};
 ghost use Rattle.station.specs.Meaning.{site, Alters};
 
 use crate::Station;
-use crate::storing::data_blocks;
+use crate::storing::{METADATA, data_blocks};
 use device::Device;
+use memory::Memory;
 use protocol::{Collected, Status};
 use refusal::Refusal;
 
@@ -14,6 +16,17 @@ use refusal::Refusal;
 const BLOCK: usize = 512;
 
 impl<D: Device> Station<D> {
+    // A node that is down, with its card.
+    pub fn down(device: D) -> Station<D>
+        ensures memory { meaning result.memory ≡ nothing }
+        ensures card { result.device ≡ device }
+    {
+        Station {
+            memory: Memory::none(),
+            device,
+        }
+    }
+
     pub fn power(&mut self, supply: u32) -> Result<(), Refusal>
         ensures { Alters D.Device.means (power supply) self.old result self.new }
     {
@@ -21,7 +34,8 @@ impl<D: Device> Station<D> {
         Ok(())
     }
 
-    fn may_read(&self, block: usize, size: usize) -> Result<(), Refusal>
+    // Those of a write begin with the same tests. They stand one by one: a table would work all of them out before the first is looked at.
+    pub fn may_read(&self, block: usize, size: usize) -> Result<(), Refusal>
         ensures { result ≡ granted (read_tests block size (site D.Device.means self.now)) }
     {
         if size != BLOCK {
@@ -39,12 +53,13 @@ impl<D: Device> Station<D> {
         Ok(())
     }
 
+    #[tactic(auto, unfolding(device::specs::Disk::read_answer))]
     pub fn read(&self, block: usize, buffer: &mut [u8]) -> Result<(), Refusal>
         ensures answer { result ≡ (read block buffer.old (site D.Device.means self.now)).0 }
         ensures bytes { buffer.new ≡ (read block buffer.old (site D.Device.means self.now)).1 }
     {
         self.may_read(block, buffer.len())?;
-        self.device.read(block + 3, buffer)?;
+        self.device.read(block + METADATA, buffer)?;
         Ok(())
     }
 
@@ -54,17 +69,12 @@ impl<D: Device> Station<D> {
         if self.memory.state.is_down() {
             return Err(Refusal::Down);
         }
-        let Some(oldest) = self.memory.records.oldest() else {
-            return Err(Refusal::Nothing);
-        };
+        let oldest = self.memory.records.oldest().ok_or(Refusal::Nothing)?;
         if oldest.standing.is_waiting() {
             return Err(Refusal::Waiting);
         }
         self.memory.free_oldest();
-        Ok(Collected {
-            number: oldest.number,
-            standing: oldest.standing,
-        })
+        Ok(Collected::from(oldest))
     }
 
     pub fn status(&self) -> Status

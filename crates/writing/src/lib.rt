@@ -2,179 +2,152 @@
 #![tactic(auto)]
 
 ghost use Rattle.std.specs.Prelude.{◌≡◌};
-ghost use Rattle.protocol.specs.Rules.{crowded, write_placement, slotted, active, posted, noting, mirroring, write};
+ghost use Rattle.protocol.specs.World.{data_blocks};
+ghost use Rattle.protocol.specs.Changes.{with_link};
+ghost use Rattle.protocol.specs.Rules.{crowded, granted, write_tests, slotted, active, posted, accepted, write};
 ghost use Rattle.message.specs.Messages.{said_by};
-ghost use Rattle.memory.specs.Meaning.{meaning};
-ghost use Rattle.station.specs.Meaning.{site, Acts};
+ghost use Rattle.station.specs.Meaning.{site, Leaves, Acts};
 
-use compare::Node;
 use device::Device;
 use link::Link;
 use message::Message;
 use message::encoder::encode;
 use protocol::{Placement, Standing, WriteRecord, way_from};
 use refusal::Refusal;
-use station::Station;
-use station::storing::{data_blocks, store};
-
-// The bytes of a block.
-const BLOCK: usize = 512;
+use station::Seat;
+use station::storing::{ACTIVITY, BITMAP, METADATA, data_blocks};
 
 // The data blocks of an extent.
 const EXTENT: usize = 64;
 
+// Where the numbers of writes end: each is below it.
+const NUMBERS: u32 = 1_000_000_000;
+
 // Fewer than two places are free on the way to the peer.
-fn is_crowded<L: Link>(node: Node, link: &L) -> bool
-    ensures { result ≡ crowded node (L.Link.means link.now).channel }
+fn is_crowded<D: Device, E: Device, L: Link>(seat: &Seat<D, E, L>) -> bool
+    ensures { result ≡ crowded seat.now.node (L.Link.means seat.now.link.now).channel }
 {
-    link.capacity().saturating_sub(link.count(way_from(node))) < 2
+    let waiting = seat.link.count(way_from(seat.node));
+    seat.link.capacity().saturating_sub(waiting) < 2
 }
 
-// Where the block's extent is to stand, or why the write is refused.
-fn may_write<D: Device, L: Link>(
-    node: Node,
-    me: &Station<D>,
-    link: &L,
+// Tested as a read is, and then by what a write alone asks, one by one: a table would work all of it out first.
+fn may_write<D: Device, E: Device, L: Link>(
+    seat: &Seat<D, E, L>,
     block: usize,
     size: usize,
-) -> Result<Placement, Refusal>
-    ensures { result ≡ write_placement node block size (site D.Device.means me.now) (L.Link.means link.now).channel }
+) -> Result<(), Refusal>
+    ensures { result ≡ granted (write_tests seat.now.node block size (site D.Device.means seat.now.me.now) (L.Link.means seat.now.link.now).channel) }
 {
-    if size != BLOCK {
-        return Err(Refusal::Measure);
-    }
-    if block >= data_blocks(&me.device) {
-        return Err(Refusal::Block);
-    }
-    if me.memory.state.is_down() {
-        return Err(Refusal::Down);
-    }
-    if !me.memory.role.is_primary() {
-        return Err(Refusal::Role);
-    }
-    if me.memory.state.is_comparing() {
+    seat.me.may_read(block, size)?;
+    let memory = &seat.me.memory;
+    if memory.state.is_comparing() {
         return Err(Refusal::Busy);
     }
-    if me.memory.records.is_full() {
+    if memory.records.is_full() {
         return Err(Refusal::Records);
     }
-    if me.memory.number >= 1_000_000_000 {
+    if memory.number >= NUMBERS {
         return Err(Refusal::Spent);
     }
-    if me.memory.state.is_mirroring() && is_crowded(node, link) {
+    if memory.state.is_mirroring() && is_crowded(seat) {
         return Err(Refusal::Way);
     }
-    match me.memory.placement(block / EXTENT) {
-        Some(placement) => Ok(placement),
-        None => Err(Refusal::Slots),
-    }
+    Ok(())
 }
 
 // Puts an extent into a slot, on the card and then in memory.
+#[tactic(auto, unfolding(protocol::specs::Rules::slotted))]
 fn enter<D: Device, E: Device, L: Link>(
-    node: Node,
-    me: &mut Station<D>,
-    peer: &mut Station<E>,
-    link: &mut L,
+    seat: &mut Seat<D, E, L>,
     slot: usize,
     extent: usize,
 ) -> Result<(), Refusal>
-    ensures { Acts D.Device.means E.Device.means L.Link.means (slotted node slot extent) me.old peer.old link.old result me.new peer.new link.new }
+    ensures { Acts D.Device.means E.Device.means L.Link.means (λ node. slotted node slot extent) seat.old result seat.new }
 {
-    let mut activity = me.memory.activity;
+    let mut activity = seat.me.memory.activity;
     activity.enter(slot, extent);
-    let block = activity.to_block();
-    store(node, me, peer, link, 1, &block)?;
-    me.memory.activate(activity, slot);
+    seat.store(ACTIVITY, &activity.to_block())?;
+    seat.me.memory.activate(activity, slot);
     Ok(())
 }
 
 // The bits of an extent that gives up its slot are written first: after a crash nothing else would mark its blocks.
+#[tactic(auto, unfolding(protocol::specs::Rules::active))]
 fn activate<D: Device, E: Device, L: Link>(
-    node: Node,
-    me: &mut Station<D>,
-    peer: &mut Station<E>,
-    link: &mut L,
+    seat: &mut Seat<D, E, L>,
     extent: usize,
     placement: Placement,
 ) -> Result<(), Refusal>
-    ensures { Acts D.Device.means E.Device.means L.Link.means (active node extent placement) me.old peer.old link.old result me.new peer.new link.new }
+    ensures { Acts D.Device.means E.Device.means L.Link.means (λ node. active node extent placement) seat.old result seat.new }
 {
     match placement {
         Placement::Active { slot } => {
-            let activity = me.memory.activity;
-            me.memory.activate(activity, slot);
+            let activity = seat.me.memory.activity;
+            seat.me.memory.activate(activity, slot);
             Ok(())
         }
-        Placement::Vacant { slot } => enter(node, me, peer, link, slot, extent),
+        Placement::Vacant { slot } => enter(seat, slot, extent),
         Placement::GivenUp { slot } => {
-            let map = me.memory.bitmap;
-            store(node, me, peer, link, 2, map.as_bytes())?;
-            enter(node, me, peer, link, slot, extent)
+            let map = seat.me.memory.bitmap;
+            seat.store(BITMAP, map.as_bytes())?;
+            enter(seat, slot, extent)
         }
     }
 }
 
-// Sends a message to the peer of the node. What no frame can say, or the link does not take, is not sent.
-fn post<L: Link>(node: Node, link: &mut L, message: &Message<'_>, blocks: usize)
-    ensures { (L.Link.means link.new).channel ≡ posted node blocks (said_by message.now) (L.Link.means link.old).channel }
+// Sends a message to the peer. What no frame can say, or the link does not take, is not sent.
+#[tactic(auto, unfolding(protocol::specs::Rules::posted, message::specs::Frames::goes, message::specs::Frames::write_answer, message::specs::Frames::write_into))]
+fn post<D: Device, E: Device, L: Link>(seat: &mut Seat<D, E, L>, message: &Message<'_>)
+    ensures { Leaves D.Device.means E.Device.means L.Link.means (λ node w. with_link (posted node (data_blocks w.me.disk) (said_by message.now) w.link) w) seat.old seat.new }
 {
     let mut frame = [0; 537];
-    if let Some(size) = encode(message, blocks, &mut frame) {
-        let _ = link.send(way_from(node), &frame[0..size]);
+    if let Some(size) = encode(message, data_blocks(&seat.me.device), &mut frame) {
+        let _ = seat.link.send(way_from(seat.node), &frame[0..size]);
     }
 }
 
 // The block is on the card: its number is given out, and it waits for the peer, or is marked as written alone.
-fn accept<D: Device, L: Link>(
-    node: Node,
-    me: &mut Station<D>,
-    link: &mut L,
+fn accept<D: Device, E: Device, L: Link>(
+    seat: &mut Seat<D, E, L>,
     block: usize,
     bytes: &[u8],
 ) -> u32
-    ensures number { result ≡ me.old.memory.number }
-    ensures memory { site D.Device.means me.new ≡ record { memory = noting block (meaning me.old.memory); disk = (D.Device.means me.old.device).disk } }
-    ensures link { (L.Link.means link.new).channel ≡ mirroring node block bytes.now (site D.Device.means me.old) (L.Link.means link.old).channel }
+    ensures { Acts D.Device.means E.Device.means L.Link.means (λ node. accepted node block bytes.now) seat.old (Ok result) seat.new }
 {
-    let number = me.memory.number;
-    let mirroring = me.memory.state.is_mirroring();
-    let standing = if mirroring {
-        Standing::Waiting
-    } else {
-        Standing::Alone
-    };
-    if mirroring {
+    let number = seat.me.memory.number;
+    let standing = if seat.me.memory.state.is_mirroring() {
         let message = Message::Data {
-            write: number as u64,
+            write: u64::from(number),
             block,
             bytes,
         };
-        post(node, link, &message, data_blocks(&me.device));
+        post(seat, &message);
+        Standing::Waiting
     } else {
-        me.memory.bitmap.set(block);
-    }
-    me.memory.records.add(WriteRecord {
+        seat.me.memory.bitmap.set(block);
+        Standing::Alone
+    };
+    seat.me.memory.records.add(WriteRecord {
         number,
         block,
         standing,
     });
-    me.memory.number = number.saturating_add(1).min(1_000_000_000);
+    seat.me.memory.number = number.saturating_add(1).min(NUMBERS);
     number
 }
 
 pub fn write<D: Device, E: Device, L: Link>(
-    node: Node,
-    me: &mut Station<D>,
-    peer: &mut Station<E>,
-    link: &mut L,
+    seat: &mut Seat<D, E, L>,
     block: usize,
     bytes: &[u8],
 ) -> Result<u32, Refusal>
-    ensures { Acts D.Device.means E.Device.means L.Link.means (write node block bytes.now) me.old peer.old link.old result me.new peer.new link.new }
+    ensures { Acts D.Device.means E.Device.means L.Link.means (λ node. write node block bytes.now) seat.old result seat.new }
 {
-    let placement = may_write(node, me, link, block, bytes.len())?;
-    activate(node, me, peer, link, block / EXTENT, placement)?;
-    store(node, me, peer, link, block + 3, bytes)?;
-    Ok(accept(node, me, link, block, bytes))
+    may_write(seat, block, bytes.len())?;
+    let extent = block / EXTENT;
+    let placement = seat.me.memory.placement(extent).ok_or(Refusal::Slots)?;
+    activate(seat, extent, placement)?;
+    seat.store(block + METADATA, bytes)?;
+    Ok(accept(seat, block, bytes))
 }

@@ -1,8 +1,7 @@
 use Rattle.std.proofs.Common.{◌≡◌, map}
 use Rattle.protocol.specs.Activation.{ended}
-use Rattle.records.specs.Kept.{kept}
 use Rattle.records.proofs.Scans.{ended_from}
 use Rattle.records.proofs.Records.end_waiting.Given as goal
 
-abbrev pub invariant-loop-i : goal.invariant-loop-i
-invariant-loop-i l = map ended (kept l.initial.self) ≡ ended_from l.i (kept l.self)
+abbrev pub invariant-loop-record : goal.invariant-loop-record
+invariant-loop-record l = map ended l.fn.self.places ≡ ended_from l.record-index l.record-items

@@ -1,30 +1,19 @@
-use Rattle.std.proofs.Common.{◌+◌, List, drop, sym, ap, ◌∙◌, arith}
-use Rattle.bitmap.specs.declared.Bitmap.{Bitmap}
-use Rattle.protocol.specs.declared.WriteRecord.{WriteRecord}
-use Rattle.protocol.specs.Activation.{marking}
-use Rattle.records.specs.Kept.{kept}
-use Rattle.records.proofs.Scans.{drop_none, marking_here, marking_more, marking_none}
+use Rattle.std.proofs.Common.{sym, ◌∙◌, true, false, refl}
+use Rattle.records.proofs.Scans.{list_given, marking_turn, marking_end}
 use Rattle.records.proofs.Records.mark_waiting.Goals as goal
-use Rattle.records.proofs.Records.mark_waiting.Goals.{in-Some+then-is_waiting, in-Some+else-is_waiting, in_default}
 
-pub loop-i-preserved : goal.loop-i-preserved
-loop-i-preserved c =
-    let rs = kept c.args.self.now in
-    let bits = c.loop-i.map.bytes in
-    let i = c.loop-i.i in
-    let rest = marking (drop (i + 1) rs) in
-    elim c.match-look.branch [
-      | in-Some+then-is_waiting w ↦
-          c.loop-i.invariant
-          ∙ marking_here rs bits c.match-look.map.bytes i w.in-Some.record w.in-Some.ensures w.if-is_waiting.ensures
-          (ap (λ (m : Bitmap). m.bytes) w.map-is ∙ w.set.ensures)
-      | in-Some+else-is_waiting w ↦
-          c.loop-i.invariant ∙ marking_more rs bits i w.in-Some.record w.in-Some.ensures w.if-is_waiting.ensures
-          ∙ ap rest (sym (ap (λ (m : Bitmap). m.bytes) w.map-is))
-      | in_default w ↦
-          c.loop-i.invariant ∙ ap (λ (qs : List WriteRecord). marking qs bits) (drop_none rs i w.in_default.ensures)
-          ∙ ap rest (sym (ap (λ (m : Bitmap). m.bytes) w.map-is))
-    ]
+pub loop-record-preserved-then-is_waiting : goal.loop-record-preserved-then-is_waiting
+loop-record-preserved-then-is_waiting c =
+    let e = list_given _ _ _ c.into_iter-record-iterator.ensures.into_iter_gives c.iter-record-items.ensures in
+    c.loop-record.invariant
+    ∙ marking_turn _ _ e _ c.in-Some.record c.loop-record.yielded_by c.in-Some.is c.next.ensures.steps _ _ true c.if-is_waiting.ensures c.set.ensures
+
+pub loop-record-preserved : goal.loop-record-preserved
+loop-record-preserved c =
+    let e = list_given _ _ _ c.into_iter-record-iterator.ensures.into_iter_gives c.iter-record-items.ensures in
+    c.loop-record.invariant ∙ marking_turn _ _ e _ c.in-Some.record c.loop-record.yielded_by c.in-Some.is c.next.ensures.steps _ _ false c.if-is_waiting.ensures refl
 
 pub returns : goal.returns
-returns c = sym (c.loop-i.invariant ∙ marking_none (kept c.args.self.now) c.loop-i.map.bytes c.loop-i.i (omega arith))
+returns c =
+    let e = list_given _ _ _ c.into_iter-record-iterator.ensures.into_iter_gives c.iter-record-items.ensures in
+    sym (c.loop-record.invariant ∙ marking_end _ _ e _ c.loop-record.yielded_by c.in-None.is c.next.ensures.steps c.loop-record.map.bytes)

@@ -1,7 +1,0 @@
-use Rattle.card.specs.Activities.{extent_in}
-use Rattle.protocol.specs.Activation.{holds}
-use Rattle.memory.proofs.Seeking.{NoneBelow}
-use Rattle.memory.proofs.Memory.slot_of.Given as goal
-
-abbrev pub invariant-loop-slot : goal.invariant-loop-slot
-invariant-loop-slot l = NoneBelow (λ s. holds l.extent (extent_in l.self.activity.slots s)) l.slot
