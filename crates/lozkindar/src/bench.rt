@@ -1,9 +1,9 @@
 // The bench: the memory that the two cards' devices are lent, and the makes of cards and link that the script asked for.
-use crate::command::{CardPlan, LinkKind, Make};
-use crate::run::with_all;
-use crate::script::{Pause, Script};
+use crate::any_device::AnyDevice;
+use crate::command::{CardPlan, LinkKind, Make, Plan};
+use crate::run::Cards;
+use crate::script::{Anew, Script};
 use anyhow::anyhow;
-use device::Device;
 use device::flat::Flat;
 use device::image::Image;
 use link::hop::Hop;
@@ -13,128 +13,80 @@ use std::io::BufRead;
 
 // What a card's device is lent.
 #[derive(Drop)]
-pub struct Store {
-    make: Make,
-    factory: Vec<u8>,
-    area: Vec<u8>,
+enum Store {
+    Flat { area: Vec<u8> },
+    Image { factory: Vec<u8>, area: Vec<u8> },
 }
 
 #[derive(Drop)]
 pub struct Bench {
-    pub zero: Store,
-    pub one: Store,
-    pub link: LinkKind,
-}
-
-// Two cards of equal count, 4 to 4,099 blocks, and 4 to 16 slots, where 0 asks for the default.
-pub fn fit(zero: CardPlan, one: CardPlan) -> bool {
-    zero.blocks >= 4
-        && zero.blocks <= 4_099
-        && zero.blocks == one.blocks
-        && slots_fit(zero)
-        && slots_fit(one)
-}
-
-fn slots_fit(plan: CardPlan) -> bool {
-    plan.slots == 0 || (plan.slots >= 4 && plan.slots <= 16)
+    zero: Store,
+    one: Store,
+    link: LinkKind,
 }
 
 impl Store {
     // A card whose blocks are all zero: no more of them than a card may have.
     fn new(heap: Global, plan: CardPlan) -> Result<Store, AllocError> {
-        let blocks = plan.blocks.min(4_099) as usize;
-        let make = plan.make;
-        match make {
-            Make::Flat => Ok(Store {
-                make,
-                factory: Vec::new(heap),
+        let blocks = plan.blocks.min(4_099);
+        match plan.make {
+            Make::Flat => Ok(Store::Flat {
                 area: vec![in heap; 0u8; blocks * 512]?,
             }),
-            Make::Image => Ok(Store {
-                make,
+            Make::Image => Ok(Store::Image {
                 factory: vec![in heap; 0u8; blocks * 512]?,
                 area: vec![in heap; 0u8; blocks * 513]?,
             }),
         }
     }
+
+    // A card's device over its memory, on mains. (`map` with the variant's name in place of the `if let` gets no proof: the
+    // variant holds a borrow.)
+    fn device(&mut self, node: usize) -> anyhow::Result<AnyDevice<Flat<'_>, Image<'_, '_>>> {
+        match self {
+            Store::Flat { area } => {
+                if let Ok(flat) = Flat::new(area.as_mut_slice()) {
+                    return Ok(AnyDevice::Flat(flat));
+                }
+            }
+            Store::Image { factory, area } => {
+                if let Ok(image) = Image::new(factory.as_slice(), area.as_mut_slice()) {
+                    return Ok(AnyDevice::Image(image));
+                }
+            }
+        }
+        Err(anyhow!("card {node} does not fit its memory"))
+    }
 }
 
 impl Bench {
-    pub fn new(
-        heap: Global,
-        zero: CardPlan,
-        one: CardPlan,
-        link: LinkKind,
-    ) -> Result<Bench, AllocError> {
+    pub fn new(heap: Global, plan: &Plan) -> Result<Bench, AllocError> {
         Ok(Bench {
-            zero: Store::new(heap, zero)?,
-            one: Store::new(heap, one)?,
-            link,
+            zero: Store::new(heap, plan.zero)?,
+            one: Store::new(heap, plan.one)?,
+            link: plan.link,
         })
     }
-}
 
-// Makes the devices over their memory, on mains, and the link, and follows the script with them.
-pub fn on_bench<B: BufRead>(
-    rt: &HostRuntime,
-    script: &mut Script<B>,
-    zero: &mut Store,
-    one: &mut Store,
-    link: LinkKind,
-) -> anyhow::Result<Pause> {
-    let Store {
-        make,
-        factory,
-        area,
-    } = zero;
-    match make {
-        Make::Flat => match Flat::new(area.as_mut_slice()) {
-            Ok(zero) => with_zero(rt, script, zero, one, link),
-            Err(_) => Err(anyhow!("card 0 does not fit its memory")),
-        },
-        Make::Image => match Image::new(factory.as_slice(), area.as_mut_slice()) {
-            Ok(zero) => with_zero(rt, script, zero, one, link),
-            Err(_) => Err(anyhow!("card 0 does not fit its memory")),
-        },
-    }
-}
-
-fn with_zero<B: BufRead, D: Device + Drop>(
-    rt: &HostRuntime,
-    script: &mut Script<B>,
-    zero: D,
-    one: &mut Store,
-    link: LinkKind,
-) -> anyhow::Result<Pause> {
-    let Store {
-        make,
-        factory,
-        area,
-    } = one;
-    match make {
-        Make::Flat => match Flat::new(area.as_mut_slice()) {
-            Ok(one) => with_cards(rt, script, zero, one, link),
-            Err(_) => Err(anyhow!("card 1 does not fit its memory")),
-        },
-        Make::Image => match Image::new(factory.as_slice(), area.as_mut_slice()) {
-            Ok(one) => with_cards(rt, script, zero, one, link),
-            Err(_) => Err(anyhow!("card 1 does not fit its memory")),
-        },
-    }
-}
-
-fn with_cards<B: BufRead, D: Device + Drop, E: Device + Drop>(
-    rt: &HostRuntime,
-    script: &mut Script<B>,
-    zero: D,
-    one: E,
-    link: LinkKind,
-) -> anyhow::Result<Pause> {
-    match link {
-        LinkKind::Slot => with_all(rt, script, zero, one, SlotLink::new()),
-        LinkKind::Hop => match Hop::new(SlotLink::new()) {
-            Ok(hop) => with_all(rt, script, zero, one, hop),
-            Err(_) => Err(anyhow!("the hop does not go over the slot link")),
-        },
+    // Makes the devices over their memory, and the link, and follows the script with them.
+    pub fn follow<B: BufRead + Drop>(
+        &mut self,
+        rt: &HostRuntime,
+        script: &mut Script<B>,
+        first: Anew,
+    ) -> anyhow::Result<Option<Anew>> {
+        let kind = self.link;
+        let zero = self.zero.device(0)?;
+        let one = self.one.device(1)?;
+        let link = SlotLink::new();
+        match kind {
+            LinkKind::Slot => Cards { zero, one, link }.follow(rt, script, first),
+            LinkKind::Hop => {
+                let link = Hop::new(link).map_err(|_| anyhow!(
+                    "the hop does not go over the slot link"
+                ))?;
+                Cards { zero, one, link }.follow(rt, script, first)
+            }
+        }
     }
 }

@@ -1,6 +1,8 @@
 // The command language: one command a line, its words parted by spaces.
 use compare::{Role, Side};
-use std::fmt;
+use refusal::Refusal;
+use std::str::FromStr;
+use std::{fmt, mem};
 
 #[derive(Clone, Copy)]
 pub enum Make {
@@ -18,55 +20,51 @@ pub enum LinkKind {
 #[derive(Clone, Copy)]
 pub struct CardPlan {
     pub make: Make,
-    pub blocks: u64,
-    pub slots: u64,
+    pub blocks: usize,
+    pub slots: usize,
+}
+
+// What `new` asks for: two cards, and the link between them.
+#[derive(Clone, Copy)]
+pub struct Plan {
+    pub zero: CardPlan,
+    pub one: CardPlan,
+    pub link: LinkKind,
 }
 
 #[derive(Clone, Copy)]
 pub enum Command<'a> {
-    New {
-        zero: CardPlan,
-        one: CardPlan,
-        link: LinkKind,
-    },
-    Load {
-        node: u64,
-        file: &'a str,
-    },
-    Poke {
-        node: u64,
-        damage: Damage,
-    },
+    New(Plan),
+    Compare { zero: Side, one: Side, word: u64 },
+    OnBench(BenchAct<'a>),
+}
+
+// What is done with the cards and the link that were made.
+#[derive(Clone, Copy)]
+pub enum BenchAct<'a> {
+    Load { node: usize, file: &'a str },
+    Poke { node: usize, damage: Damage },
     Show,
-    OnCard {
-        node: u64,
-        act: CardAct<'a>,
-    },
-    OnLink {
-        act: LinkAct<'a>,
-    },
-    Compare {
-        zero: Side,
-        one: Side,
-        word: u64,
-    },
+    OnCard { node: usize, act: CardAct<'a> },
+    OnLink(LinkAct<'a>),
 }
 
 // Another value for one byte of a card.
 #[derive(Clone, Copy)]
 pub struct Damage {
-    pub block: u64,
-    pub byte: u64,
+    pub block: usize,
+    pub byte: usize,
     pub value: u64,
 }
 
 // What is done straight on one card.
 #[derive(Clone, Copy)]
 pub enum CardAct<'a> {
-    Power { supply: u64 },
-    Write { block: u64, text: &'a str },
-    Read { block: u64 },
-    Save { file: &'a str },
+    // So many block writes, or mains.
+    Power(u64),
+    Write { block: usize, text: &'a str },
+    Read(usize),
+    Save(&'a str),
     Check,
 }
 
@@ -75,13 +73,14 @@ pub enum CardAct<'a> {
 pub enum LinkAct<'a> {
     Open,
     Cut,
-    Send { node: u64, text: &'a str },
-    Take { node: u64 },
+    Send { node: usize, text: &'a str },
+    Take { node: usize },
 }
 
-// Why a line is no command.
+// Why a line is not followed.
 #[derive(Clone, Copy)]
 pub enum Complaint {
+    NotText,
     Unknown,
     Missing(&'static str),
     NotANumber(&'static str),
@@ -89,11 +88,13 @@ pub enum Complaint {
     NotAMake,
     NotALink,
     TooMuch,
+    NoCards,
 }
 
 impl fmt::Display for Complaint {
     fn fmt<W: fmt::Write>(&self, f: &mut fmt::Formatter<W>) -> fmt::Result {
         match *self {
+            Complaint::NotText => write!(f, "not UTF-8"),
             Complaint::Unknown => write!(f, "no such command"),
             Complaint::Missing(what) => write!(f, "{what} is missing"),
             Complaint::NotANumber(what) => write!(f, "{what} is not a number"),
@@ -101,27 +102,64 @@ impl fmt::Display for Complaint {
             Complaint::NotAMake => write!(f, "a card is flat or image"),
             Complaint::NotALink => write!(f, "a link is slot or hop"),
             Complaint::TooMuch => write!(f, "more words than the command takes"),
+            Complaint::NoCards => write!(f, "no cards yet: make them with new"),
         }
+    }
+}
+
+impl FromStr for Make {
+    type Err = Complaint;
+
+    fn from_str(word: &str) -> Result<Make, Complaint> {
+        match word {
+            "flat" => Ok(Make::Flat),
+            "image" => Ok(Make::Image),
+            _ => Err(Complaint::NotAMake),
+        }
+    }
+}
+
+impl FromStr for LinkKind {
+    type Err = Complaint;
+
+    fn from_str(word: &str) -> Result<LinkKind, Complaint> {
+        match word {
+            "slot" => Ok(LinkKind::Slot),
+            "hop" => Ok(LinkKind::Hop),
+            _ => Err(Complaint::NotALink),
+        }
+    }
+}
+
+impl CardPlan {
+    // 4 to 4,099 blocks, and 4 to 16 slots, where 0 asks for the default.
+    fn fits(self) -> bool {
+        matches!(self.blocks, 4..=4_099) && matches!(self.slots, 0 | 4..=16)
+    }
+}
+
+impl Plan {
+    // Two cards that can be had, of equal count.
+    pub fn fitting(self) -> Result<Plan, Refusal> {
+        if self.zero.blocks == self.one.blocks && self.zero.fits() && self.one.fits() {
+            return Ok(self);
+        }
+        Err(Refusal::Measure)
     }
 }
 
 // The command in a line: without the blanks around it, and without a comment. A text goes on to the line's end.
 pub fn body(line: &str) -> &str {
     let start = line.trim_start();
-    if takes_text(first_word(start)) {
+    if takes_text(before(start, ' ')) {
         return start;
     }
-    match start.split_once('#') {
-        Some((before, _)) => before.trim_end(),
-        None => start.trim_end(),
-    }
+    before(start, '#').trim_end()
 }
 
-fn first_word(text: &str) -> &str {
-    match text.split_once(' ') {
-        Some((word, _)) => word,
-        None => text,
-    }
+// The text up to a mark; all of it where there is none.
+fn before(text: &str, mark: char) -> &str {
+    text.split_once(mark).map_or(text, |(before, _)| before)
 }
 
 fn takes_text(verb: &str) -> bool {
@@ -134,37 +172,33 @@ struct Words<'a> {
     rest: &'a str,
 }
 
-impl<'a> Words<'a> {
+impl<'a> Iterator for Words<'a> {
+    type Item = &'a str;
+
     fn next(&mut self) -> Option<&'a str> {
         let text = self.rest.trim_start();
         if text.is_empty() {
             return None;
         }
-        match text.split_once(' ') {
-            Some((word, rest)) => {
-                self.rest = rest;
-                Some(word)
-            }
-            None => {
-                self.rest = "";
-                Some(text)
-            }
-        }
+        let (word, rest) = text.split_once(' ').unwrap_or((text, ""));
+        self.rest = rest;
+        Some(word)
     }
+}
 
+impl<'a> Words<'a> {
     fn word(&mut self, what: &'static str) -> Result<&'a str, Complaint> {
-        match self.next() {
-            Some(word) => Ok(word),
-            None => Err(Complaint::Missing(what)),
-        }
+        self.next().ok_or(Complaint::Missing(what))
     }
 
     fn number(&mut self, what: &'static str) -> Result<u64, Complaint> {
         let word = self.word(what)?;
-        match text::number(word) {
-            Some(n) => Ok(n),
-            None => Err(Complaint::NotANumber(what)),
-        }
+        text::number(word).ok_or(Complaint::NotANumber(what))
+    }
+
+    // A number that says which, or how many.
+    fn index(&mut self, what: &'static str) -> Result<usize, Complaint> {
+        Ok(self.number(what)? as usize)
     }
 
     fn flag(&mut self, what: &'static str) -> Result<bool, Complaint> {
@@ -177,23 +211,30 @@ impl<'a> Words<'a> {
 
     // All that is left, from the next character on.
     fn text(&mut self) -> &'a str {
-        let text = self.rest;
-        self.rest = "";
-        text
+        mem::replace(&mut self.rest, "")
     }
 
     fn card_plan(&mut self) -> Result<CardPlan, Complaint> {
-        let make = match self.word("a card's make")? {
-            "flat" => Make::Flat,
-            "image" => Make::Image,
-            _ => return Err(Complaint::NotAMake),
-        };
-        let blocks = self.number("the count of blocks")?;
-        let slots = self.number("the count of slots")?;
         Ok(CardPlan {
-            make,
-            blocks,
-            slots,
+            make: self.word("a card's make")?.parse()?,
+            blocks: self.index("the count of blocks")?,
+            slots: self.index("the count of slots")?,
+        })
+    }
+
+    fn plan(&mut self) -> Result<Plan, Complaint> {
+        Ok(Plan {
+            zero: self.card_plan()?,
+            one: self.card_plan()?,
+            link: self.word("the link's kind")?.parse()?,
+        })
+    }
+
+    fn damage(&mut self) -> Result<Damage, Complaint> {
+        Ok(Damage {
+            block: self.index("the block")?,
+            byte: self.index("the byte")?,
+            value: self.number("the value")?,
         })
     }
 
@@ -206,20 +247,74 @@ impl<'a> Words<'a> {
             older: self.number("a second history")?,
             consistent: self.flag("a consistent flag")?,
             primary: self.flag("a primary flag")?,
-            role: match self.flag("a role")? {
-                true => Role::Primary,
-                false => Role::Secondary,
-            },
+            role: Role::from(self.flag("a role")?),
             bits: self.number("a count of bits")?,
         })
     }
 
-    fn link_kind(&mut self) -> Result<LinkKind, Complaint> {
-        match self.word("the link's kind")? {
-            "slot" => Ok(LinkKind::Slot),
-            "hop" => Ok(LinkKind::Hop),
-            _ => Err(Complaint::NotALink),
-        }
+    fn command(&mut self, verb: &str) -> Result<Command<'a>, Complaint> {
+        Ok(match verb {
+            "new" => Command::New(self.plan()?),
+            "compare" => Command::Compare {
+                zero: self.side()?,
+                one: self.side()?,
+                word: self.number("the word")?,
+            },
+            _ => Command::OnBench(self.bench_act(verb)?),
+        })
+    }
+
+    fn bench_act(&mut self, verb: &str) -> Result<BenchAct<'a>, Complaint> {
+        Ok(match verb {
+            "load" => BenchAct::Load {
+                node: self.index("the node")?,
+                file: self.word("the file")?,
+            },
+            "poke" => BenchAct::Poke {
+                node: self.index("the node")?,
+                damage: self.damage()?,
+            },
+            "show" => BenchAct::Show,
+            "power" => BenchAct::OnCard {
+                node: self.index("the node")?,
+                act: CardAct::Power(self.number("the supply")?),
+            },
+            "card-write" => BenchAct::OnCard {
+                node: self.index("the node")?,
+                act: CardAct::Write {
+                    block: self.index("the block")?,
+                    text: self.text(),
+                },
+            },
+            "card-read" => BenchAct::OnCard {
+                node: self.index("the node")?,
+                act: CardAct::Read(self.index("the block")?),
+            },
+            "save" => BenchAct::OnCard {
+                node: self.index("the node")?,
+                act: CardAct::Save(self.word("the file")?),
+            },
+            "check" => BenchAct::OnCard {
+                node: self.index("the node")?,
+                act: CardAct::Check,
+            },
+            _ => BenchAct::OnLink(self.link_act(verb)?),
+        })
+    }
+
+    fn link_act(&mut self, verb: &str) -> Result<LinkAct<'a>, Complaint> {
+        Ok(match verb {
+            "link-open" => LinkAct::Open,
+            "link-cut" => LinkAct::Cut,
+            "link-send" => LinkAct::Send {
+                node: self.index("the way")?,
+                text: self.text(),
+            },
+            "link-take" => LinkAct::Take {
+                node: self.index("the way")?,
+            },
+            _ => return Err(Complaint::Unknown),
+        })
     }
 }
 
@@ -229,78 +324,9 @@ pub fn parse(body: &str) -> Result<Option<Command<'_>>, Complaint> {
     let Some(verb) = words.next() else {
         return Ok(None);
     };
-    let command = match verb {
-        "new" => new(&mut words)?,
-        "load" => Command::Load {
-            node: words.number("the node")?,
-            file: words.word("the file")?,
-        },
-        "poke" => poke(&mut words)?,
-        "show" => Command::Show,
-        "compare" => Command::Compare {
-            zero: words.side()?,
-            one: words.side()?,
-            word: words.number("the word")?,
-        },
-        "power" | "card-write" | "card-read" | "save" | "check" => on_card(verb, &mut words)?,
-        "link-open" | "link-cut" | "link-send" | "link-take" => on_link(verb, &mut words)?,
-        _ => return Err(Complaint::Unknown),
-    };
-    if words.next().is_some() {
-        return Err(Complaint::TooMuch);
+    let command = words.command(verb)?;
+    match words.next() {
+        Some(_) => Err(Complaint::TooMuch),
+        None => Ok(Some(command)),
     }
-    Ok(Some(command))
-}
-
-fn new<'a>(words: &mut Words<'a>) -> Result<Command<'a>, Complaint> {
-    let zero = words.card_plan()?;
-    let one = words.card_plan()?;
-    let link = words.link_kind()?;
-    Ok(Command::New { zero, one, link })
-}
-
-fn poke<'a>(words: &mut Words<'a>) -> Result<Command<'a>, Complaint> {
-    let node = words.number("the node")?;
-    let damage = Damage {
-        block: words.number("the block")?,
-        byte: words.number("the byte")?,
-        value: words.number("the value")?,
-    };
-    Ok(Command::Poke { node, damage })
-}
-
-fn on_card<'a>(verb: &str, words: &mut Words<'a>) -> Result<Command<'a>, Complaint> {
-    let node = words.number("the node")?;
-    let act = match verb {
-        "power" => CardAct::Power {
-            supply: words.number("the supply")?,
-        },
-        "card-read" => CardAct::Read {
-            block: words.number("the block")?,
-        },
-        "save" => CardAct::Save {
-            file: words.word("the file")?,
-        },
-        "check" => CardAct::Check,
-        _ => CardAct::Write {
-            block: words.number("the block")?,
-            text: words.text(),
-        },
-    };
-    Ok(Command::OnCard { node, act })
-}
-
-fn on_link<'a>(verb: &str, words: &mut Words<'a>) -> Result<Command<'a>, Complaint> {
-    let act = match verb {
-        "link-open" => LinkAct::Open,
-        "link-cut" => LinkAct::Cut,
-        "link-take" => LinkAct::Take {
-            node: words.number("the way")?,
-        },
-        _ => LinkAct::Send {
-            node: words.number("the way")?,
-            text: words.text(),
-        },
-    };
-    Ok(Command::OnLink { act })
 }

@@ -1,40 +1,41 @@
 // The comparison of two generations, by itself.
-use crate::script::Outcome;
+use crate::script::{Answer, Stop};
 use compare::{Node, Side, Word, compare, deciding_rule};
-use std::alloc::{AllocError, Global};
+use refusal::Refusal;
+use std::alloc::Global;
+use std::fmt;
 
-fn signed(heap: Global, number: i32) -> Result<String, AllocError> {
-    if number > 0 {
-        format!(in heap; "+{number}")
-    } else {
-        format!(in heap; "{number}")
+// A number with its sign. Nought has none, where `{:+}` would write one.
+#[derive(Clone, Copy)]
+struct Signed(i32);
+
+impl fmt::Display for Signed {
+    fn fmt<W: fmt::Write>(&self, f: &mut fmt::Formatter<W>) -> fmt::Result {
+        if self.0 > 0 {
+            write!(f, "+")?;
+        }
+        write!(f, "{}", self.0)
     }
 }
 
 // What node 0 and what node 1 are told.
-fn answers(heap: Global, zero: Side, one: Side, word: Word) -> Result<String, AllocError> {
-    match compare(zero, one, Node::Zero, word) {
-        Ok(here) => match compare(one, zero, Node::One, word) {
-            Ok(there) => {
-                let here = signed(heap, here)?;
-                let there = signed(heap, there)?;
-                format!(in heap; "ok {here} {there}")
-            }
-            Err(refusal) => format!(in heap; "{refusal}"),
-        },
-        Err(refusal) => format!(in heap; "{refusal}"),
-    }
+fn answers(zero: Side, one: Side, word: Word) -> Result<(Signed, Signed), Refusal> {
+    let here = compare(zero, one, Node::Zero, word)?;
+    let there = compare(one, zero, Node::One, word)?;
+    Ok((Signed(here), Signed(there)))
 }
 
 // The answers at both ends, and the rule that decided.
-pub fn outcome(heap: Global, zero: Side, one: Side, word: u64) -> Result<Outcome, AllocError> {
-    let word = match Word::numbered(word.min(255) as u8) {
-        Ok(word) => word,
-        Err(refusal) => return Ok(Outcome::Refused(refusal)),
+pub fn compared(heap: Global, zero: Side, one: Side, word: u64) -> Result<Answer, Stop> {
+    let word = u8::try_from(word).map_err(|_| Refusal::Word)?;
+    let word = Word::try_from(word)?;
+    let answer = match answers(zero, one, word) {
+        Ok((here, there)) => format!(in heap; "ok {here} {there}")?,
+        Err(refusal) => refusal.to_string(heap)?,
     };
-    let rule = deciding_rule(zero, one).name();
-    Ok(Outcome::Told {
-        answer: answers(heap, zero, one, word)?,
+    let rule = deciding_rule(zero, one);
+    Ok(Answer::Told {
+        answer,
         lines: format!(in heap; "  {rule}\n")?,
     })
 }

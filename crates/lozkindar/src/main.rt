@@ -1,6 +1,7 @@
 // Lozkindar's program: follows a script of commands, one a line, from a file or from standard input.
 #![tactic(auto)]
 
+mod any_device;
 mod bench;
 mod card_tools;
 mod command;
@@ -9,71 +10,39 @@ mod link_tools;
 mod run;
 mod script;
 
-use crate::bench::{Bench, fit, on_bench};
-use crate::command::Command;
-use crate::script::{Outcome, Pause, Script};
+use crate::bench::Bench;
+use crate::command::{BenchAct, Complaint};
+use crate::script::{Change, Ground, Script, Step, Stop};
 use anyhow::anyhow;
-use refusal::Refusal;
 use std::io::{BufRead, BufReader};
 use std::rt::Files;
 use std::{env, fs};
 
-// What a line comes to before there are cards; none where it makes them.
-fn without_cards(rt: &HostRuntime, line: Option<&str>) -> anyhow::Result<Option<Outcome>> {
-    let command = match script::command_of(rt.alloc(), line)? {
-        Ok(command) => command,
-        Err(outcome) => return Ok(Some(outcome)),
-    };
-    match command {
-        Command::New { zero, one, .. } => match fit(zero, one) {
-            true => Ok(None),
-            false => Ok(Some(Outcome::Refused(Refusal::Measure))),
-        },
-        Command::Compare { zero, one, word } => Ok(Some(compare_tools::outcome(
-            rt.alloc(),
-            zero,
-            one,
-            word,
-        )?)),
-        _ => {
-            let what = String::from_str(rt.alloc(), "no cards yet: make them with new")?;
-            Ok(Some(Outcome::Trouble(what)))
-        }
-    }
-}
+// Before there are cards.
+#[derive(Drop)]
+struct NoCards;
 
-// Follows the script up to the line that makes the first cards.
-fn before_cards<B: BufRead>(rt: &HostRuntime, script: &mut Script<B>) -> anyhow::Result<Pause> {
-    for _ in 0..u64::MAX {
-        if !script.advance()? {
-            break;
-        }
-        match without_cards(rt, script.line())? {
-            Some(outcome) => script.tell(rt, outcome)?,
-            None => return Ok(Pause::Outside),
-        }
+impl Ground for NoCards {
+    fn act(&mut self, _rt: &HostRuntime, _act: BenchAct<'_>) -> Result<Step, Stop> {
+        Err(Stop::Complaint(Complaint::NoCards))
     }
-    Ok(Pause::End)
 }
 
 fn follow<B: BufRead + Drop>(rt: &HostRuntime, input: B) -> anyhow::Result<()> {
-    let mut script = Script::new(input, rt.alloc());
+    let mut script = Script::new(rt.alloc(), input);
     let mut bench: Option<Bench> = None;
+    let mut next = script.follow(rt, &mut NoCards)?;
+    // Each round takes a line, and the lines end. A `while let` was tried: its measure is how many lines are left, and after a `for`
+    // over `&mut self.lines` in `Script::follow` the proof knows nothing of that.
     for _ in 0..u64::MAX {
-        let pause = match &mut bench {
-            Some(bench) => on_bench(rt, &mut script, &mut bench.zero, &mut bench.one, bench.link)?,
-            None => before_cards(rt, &mut script)?,
+        let Some(anew) = next else { break };
+        if let Change::New(plan) = &anew.change {
+            bench = Some(Bench::new(rt.alloc(), plan)?);
+        }
+        let Some(bench) = &mut bench else {
+            return Err(anyhow!("there are no cards to change"));
         };
-        match pause {
-            Pause::End => break,
-            Pause::Outside => {}
-        }
-        if let Ok(Command::New { zero, one, link }) = script::command_of(
-            rt.alloc(),
-            script.line(),
-        )? {
-            bench = Some(Bench::new(rt.alloc(), zero, one, link)?);
-        }
+        next = bench.follow(rt, &mut script, anew)?;
     }
     match script.troubles() {
         0 => Ok(()),

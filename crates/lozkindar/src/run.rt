@@ -1,130 +1,104 @@
 // Following the script over two cards and a link, of any makes.
-use crate::bench::fit;
-use crate::command::Command;
-use crate::script::{Outcome, Pause, Script};
-use crate::{card_tools, compare_tools, link_tools, script};
+use crate::command::{BenchAct, Damage};
+use crate::script::{Anew, Answer, Change, Ground, Script, Step, Stop};
+use crate::{card_tools, link_tools};
 use card::making::create;
+use compare::Node;
 use device::Device;
 use link::Link;
-use refusal::Refusal;
+use std::alloc::Global;
 use std::io::BufRead;
 
-// The line at hand had the devices and the link made anew, so it is done first; the next such line ends the run.
-pub fn with_all<B: BufRead, D: Device + Drop, E: Device + Drop, L: Link + Drop>(
-    rt: &HostRuntime,
-    script: &mut Script<B>,
-    zero: D,
-    one: E,
-    link: L,
-) -> anyhow::Result<Pause> {
-    let mut zero = zero;
-    let mut one = one;
-    let mut link = link;
-    let first = from_outside(rt, script.line(), &mut zero, &mut one)?;
-    script.tell(rt, first)?;
-    for _ in 0..u64::MAX {
-        if !script.advance()? {
-            break;
-        }
-        match step(rt, script.line(), &mut zero, &mut one, &mut link)? {
-            Some(outcome) => script.tell(rt, outcome)?,
-            None => return Ok(Pause::Outside),
+// Two cards and the link between them.
+#[derive(Drop)]
+pub struct Cards<D, L> {
+    pub zero: D,
+    pub one: D,
+    pub link: L,
+}
+
+impl<D: Device, L: Link> Cards<D, L> {
+    fn card(&mut self, node: Node) -> &mut D {
+        match node {
+            Node::Zero => &mut self.zero,
+            Node::One => &mut self.one,
         }
     }
-    Ok(Pause::End)
-}
 
-// What a line comes to that made the devices anew.
-fn from_outside<D: Device, E: Device>(
-    rt: &HostRuntime,
-    line: Option<&str>,
-    zero: &mut D,
-    one: &mut E,
-) -> anyhow::Result<Outcome> {
-    match script::command_of(rt.alloc(), line)? {
-        Ok(
-            Command::New {
-                zero: first,
-                one: second,
-                ..
-            },
-        ) => Ok(create_both(zero, one, first.slots, second.slots)),
-        Ok(Command::Load { node: 0, file }) => card_tools::load(rt, zero, file),
-        Ok(Command::Load { node: 1, file }) => card_tools::load(rt, one, file),
-        Ok(Command::Poke { node: 0, damage }) => Ok(card_tools::done(card_tools::poke(
-            zero, damage,
-        ))),
-        Ok(Command::Poke { node: 1, damage }) => Ok(card_tools::done(card_tools::poke(
-            one, damage,
-        ))),
-        _ => Ok(Outcome::Done),
+    // What a line comes to that had the devices and the link made anew.
+    fn begin(&mut self, change: Change) -> Result<Answer, Stop> {
+        match change {
+            Change::New(plan) => {
+                create(&mut self.zero, plan.zero.slots)?;
+                create(&mut self.one, plan.one.slots)?;
+            }
+            Change::Put { node, block, bytes } => {
+                card_tools::put(self.card(node), block, bytes.as_slice())?;
+            }
+        }
+        Ok(Answer::Done)
+    }
+
+    fn load(&mut self, rt: &HostRuntime, node: usize, file: &str) -> Result<Change, Stop> {
+        let node = Node::try_from(node)?;
+        let bytes = card_tools::card_in(rt, file, self.card(node).count())?;
+        Ok(Change::Put {
+            node,
+            block: 0,
+            bytes,
+        })
+    }
+
+    fn poke(&mut self, heap: Global, node: usize, damage: Damage) -> Result<Change, Stop> {
+        let node = Node::try_from(node)?;
+        let block = card_tools::damaged(self.card(node), damage)?;
+        Ok(Change::Put {
+            node,
+            block: damage.block,
+            bytes: block.to_vec(heap)?,
+        })
+    }
+
+    fn show(&self, heap: Global) -> Result<Answer, Stop> {
+        let mut lines = String::new(heap);
+        card_tools::list(&self.zero, 0, &mut lines)?;
+        card_tools::list(&self.one, 1, &mut lines)?;
+        link_tools::draw(&self.link, &mut lines)?;
+        Ok(Answer::Told {
+            answer: String::from_str(heap, "ok")?,
+            lines,
+        })
     }
 }
 
-fn create_both<D: Device, E: Device>(
-    zero: &mut D,
-    one: &mut E,
-    first: u64,
-    second: u64,
-) -> Outcome {
-    match create(zero, first as usize) {
-        Ok(()) => card_tools::done(create(one, second as usize)),
-        Err(refusal) => Outcome::Refused(refusal),
+impl<D: Device, L: Link> Ground for Cards<D, L> {
+    fn act(&mut self, rt: &HostRuntime, act: BenchAct<'_>) -> Result<Step, Stop> {
+        Ok(match act {
+            BenchAct::Load { node, file } => Step::Anew(self.load(rt, node, file)?),
+            BenchAct::Poke { node, damage } => Step::Anew(self.poke(rt.alloc(), node, damage)?),
+            BenchAct::Show => Step::Answered(self.show(rt.alloc())?),
+            BenchAct::OnCard { node, act } => {
+                let card = self.card(Node::try_from(node)?);
+                Step::Answered(card_tools::act_on(rt, card, node, act)?)
+            }
+            BenchAct::OnLink(act) => {
+                Step::Answered(link_tools::act_on(rt.alloc(), &mut self.link, act)?)
+            }
+        })
     }
 }
 
-// What a line comes to; none where the devices are made anew for it.
-fn step<D: Device, E: Device, L: Link>(
-    rt: &HostRuntime,
-    line: Option<&str>,
-    zero: &mut D,
-    one: &mut E,
-    link: &mut L,
-) -> anyhow::Result<Option<Outcome>> {
-    let command = match script::command_of(rt.alloc(), line)? {
-        Ok(command) => command,
-        Err(outcome) => return Ok(Some(outcome)),
-    };
-    match command {
-        Command::New { zero, one, .. } => match fit(zero, one) {
-            true => Ok(None),
-            false => Ok(Some(Outcome::Refused(Refusal::Measure))),
-        },
-        Command::Load { node, file } => match node > 1 {
-            true => Ok(Some(Outcome::Refused(Refusal::Node))),
-            false => card_tools::no_card_in(rt, file, zero.count()),
-        },
-        Command::Show => Ok(Some(show(rt, zero, one, link)?)),
-        Command::Poke { node, damage } => match node > 1 {
-            true => Ok(Some(Outcome::Refused(Refusal::Node))),
-            false => Ok(card_tools::no_such_byte(damage, zero.count())),
-        },
-        Command::Compare { zero, one, word } => Ok(Some(compare_tools::outcome(
-            rt.alloc(),
-            zero,
-            one,
-            word,
-        )?)),
-        Command::OnCard { node: 0, act } => Ok(Some(card_tools::act_on(rt, zero, 0, act)?)),
-        Command::OnCard { node: 1, act } => Ok(Some(card_tools::act_on(rt, one, 1, act)?)),
-        Command::OnCard { .. } => Ok(Some(Outcome::Refused(Refusal::Node))),
-        Command::OnLink { act } => Ok(Some(link_tools::act_on(rt.alloc(), link, act)?)),
+impl<D: Device + Drop, L: Link + Drop> Cards<D, L> {
+    // The first line had the devices and the link made anew, and the next such line ends the run.
+    pub fn follow<B: BufRead + Drop>(
+        mut self,
+        rt: &HostRuntime,
+        script: &mut Script<B>,
+        first: Anew,
+    ) -> anyhow::Result<Option<Anew>> {
+        let Anew { line, change } = first;
+        let said = self.begin(change);
+        script.tell(rt, &line, said)?;
+        script.follow(rt, &mut self)
     }
-}
-
-fn show<D: Device, E: Device, L: Link>(
-    rt: &HostRuntime,
-    zero: &D,
-    one: &E,
-    link: &L,
-) -> anyhow::Result<Outcome> {
-    let heap = rt.alloc();
-    let mut lines = String::new(heap);
-    card_tools::list(heap, zero, 0, &mut lines)?;
-    card_tools::list(heap, one, 1, &mut lines)?;
-    link_tools::draw(heap, link, &mut lines)?;
-    Ok(Outcome::Told {
-        answer: String::from_str(heap, "ok")?,
-        lines,
-    })
 }

@@ -1,121 +1,211 @@
 // The script: the lines of a file or of standard input, and what is said of them.
-use crate::command;
-use crate::command::Command;
+use crate::command::{BenchAct, Command, Complaint, Plan};
+use crate::{command, compare_tools};
+use compare::Node;
+use device::DeviceFault;
+use link::LinkFault;
 use refusal::Refusal;
 use std::alloc::{AllocError, Global};
-use std::io::BufRead;
+use std::io::{BufRead, Split};
+use std::iter::Zip;
+use std::ops::RangeFrom;
+use std::{fmt, io, str};
 
-// What a line came to.
+// What a command that was followed is answered with.
 #[derive(Drop)]
-pub enum Outcome {
-    // A blank line or a comment.
-    Nothing,
+pub enum Answer {
     Done,
     Value(String),
     // An answer with lines for a person below it, each with its end.
     Told { answer: String, lines: String },
-    Refused(Refusal),
-    // No command, or one that failed outside the cards, as a file that cannot be read.
-    Trouble(String),
 }
 
-// Why a run over the lines stopped.
-#[derive(Clone, Copy)]
-pub enum Pause {
-    End,
-    // The line at hand makes cards, or changes one from outside.
-    Outside,
+// Why a line was not followed.
+#[derive(Drop)]
+pub enum Stop {
+    Refused(Refusal),
+    Complaint(Complaint),
+    // What failed outside the cards, as a file that cannot be read.
+    Trouble(String),
+    // This ends the run.
+    Memory(AllocError),
+}
+
+impl From<Refusal> for Stop {
+    fn from(refusal: Refusal) -> Stop {
+        Stop::Refused(refusal)
+    }
+}
+
+// One `From` over every fault that is told as a refusal would overlap with the others here.
+impl From<DeviceFault> for Stop {
+    fn from(fault: DeviceFault) -> Stop {
+        Stop::Refused(fault.into())
+    }
+}
+
+impl From<LinkFault> for Stop {
+    fn from(fault: LinkFault) -> Stop {
+        Stop::Refused(fault.into())
+    }
+}
+
+impl From<Complaint> for Stop {
+    fn from(complaint: Complaint) -> Stop {
+        Stop::Complaint(complaint)
+    }
+}
+
+impl From<AllocError> for Stop {
+    fn from(error: AllocError) -> Stop {
+        Stop::Memory(error)
+    }
+}
+
+// What the devices and the link are made anew for.
+#[derive(Drop)]
+pub enum Change {
+    New(Plan),
+    // Whole blocks onto a card, from one on.
+    Put {
+        node: Node,
+        block: usize,
+        bytes: Vec<u8>,
+    },
+}
+
+// What a line comes to that is followed.
+#[derive(Drop)]
+pub enum Step {
+    // A blank line or a comment.
+    Nothing,
+    Answered(Answer),
+    Anew(Change),
+}
+
+// What is there for the commands on cards and a link.
+pub trait Ground {
+    fn act(&mut self, rt: &HostRuntime, act: BenchAct<'_>) -> Result<Step, Stop>;
+}
+
+#[derive(Drop)]
+pub struct Line {
+    bytes: Vec<u8>,
+    number: u64,
+}
+
+impl Line {
+    fn body(&self) -> Result<&str, Complaint> {
+        let text = str::from_utf8(self.bytes.as_slice()).map_err(|_| Complaint::NotText)?;
+        Ok(command::body(text.trim_end_matches('\r')))
+    }
+
+    fn step<G: Ground>(&self, rt: &HostRuntime, ground: &mut G) -> Result<Step, Stop> {
+        match command::parse(self.body()?)? {
+            None => Ok(Step::Nothing),
+            Some(Command::New(plan)) => Ok(Step::Anew(Change::New(plan.fitting()?))),
+            Some(Command::Compare { zero, one, word }) => {
+                let answer = compare_tools::compared(rt.alloc(), zero, one, word)?;
+                Ok(Step::Answered(answer))
+            }
+            Some(Command::OnBench(act)) => ground.act(rt, act),
+        }
+    }
+}
+
+// A line that has the devices and the link made anew, and is followed and answered after that.
+#[derive(Drop)]
+pub struct Anew {
+    pub line: Line,
+    pub change: Change,
+}
+
+// What is printed of the lines, and how many of them were trouble.
+#[derive(Drop)]
+struct Report {
+    troubles: u64,
+}
+
+impl Report {
+    // Prints the command and its answer, or what is wrong with the line.
+    fn tell(
+        &mut self,
+        rt: &HostRuntime,
+        line: &Line,
+        said: Result<Answer, Stop>,
+    ) -> anyhow::Result<()> {
+        let command = line.body().unwrap_or("");
+        match said {
+            Ok(Answer::Done) => println!(rt; "{command} -> ok")?,
+            Ok(Answer::Value(value)) => println!(rt; "{command} -> ok {value}")?,
+            Ok(Answer::Told { answer, lines }) => print!(rt; "{command} -> {answer}\n{lines}")?,
+            Err(Stop::Refused(refusal)) => println!(rt; "{command} -> {refusal}")?,
+            Err(Stop::Complaint(complaint)) => self.trouble(rt, line, complaint)?,
+            Err(Stop::Trouble(what)) => self.trouble(rt, line, what)?,
+            Err(Stop::Memory(error)) => return Err(error.into()),
+        }
+        Ok(())
+    }
+
+    fn trouble<T: fmt::Display + Drop>(
+        &mut self,
+        rt: &HostRuntime,
+        line: &Line,
+        what: T,
+    ) -> io::Result<()> {
+        let number = line.number;
+        self.troubles = self.troubles.saturating_add(1);
+        println!(rt; "line {number}: {what}")
+    }
 }
 
 #[derive(Drop)]
 pub struct Script<B> {
-    input: B,
-    line: Vec<u8>,
-    number: u64,
-    troubles: u64,
+    lines: Zip<Split<B>, RangeFrom<u64>>,
+    report: Report,
 }
 
-impl<B: BufRead> Script<B> {
-    pub fn new(input: B, heap: Global) -> Script<B> {
+impl<B: BufRead + Drop> Script<B> {
+    pub fn new(heap: Global, input: B) -> Script<B> {
         Script {
-            input,
-            line: Vec::new(heap),
-            number: 0,
-            troubles: 0,
-        }
-    }
-
-    // Goes on to the next line; false at the end.
-    pub fn advance(&mut self) -> anyhow::Result<bool> {
-        self.line.clear();
-        self.number = self.number.saturating_add(1);
-        Ok(self.input.read_until(b'\n', &mut self.line)? > 0)
-    }
-
-    // The line at hand, without its end; none where it is not UTF-8.
-    pub fn line(&self) -> Option<&str> {
-        match std::str::from_utf8(self.line.as_slice()) {
-            Ok(text) => Some(text.trim_end_matches('\n').trim_end_matches('\r')),
-            Err(_) => None,
+            lines: input.split(heap, b'\n').zip(1..),
+            report: Report { troubles: 0 },
         }
     }
 
     // How many lines were trouble.
     pub fn troubles(&self) -> u64 {
-        self.troubles
+        self.report.troubles
     }
 
-    fn command(&self) -> &str {
-        match self.line() {
-            Some(line) => command::body(line),
-            None => "",
-        }
-    }
-
-    // Prints the command and its answer, or what is wrong with the line.
-    pub fn tell(&mut self, rt: &HostRuntime, outcome: Outcome) -> anyhow::Result<()> {
-        match outcome {
-            Outcome::Nothing => {}
-            Outcome::Done => self.answer(rt, "ok")?,
-            Outcome::Value(value) => {
-                let command = self.command();
-                println!(rt; "{command} -> ok {value}")?;
-            }
-            Outcome::Told { answer, lines } => {
-                self.answer(rt, answer.as_str())?;
-                print!(rt; "{lines}")?;
-            }
-            Outcome::Refused(refusal) => {
-                let command = self.command();
-                println!(rt; "{command} -> {refusal}")?;
-            }
-            Outcome::Trouble(what) => {
-                let number = self.number;
-                self.troubles = self.troubles.saturating_add(1);
-                println!(rt; "line {number}: {what}")?;
+    // Follows the lines up to one that has the devices and the link made anew; none at the end.
+    pub fn follow<G: Ground>(
+        &mut self,
+        rt: &HostRuntime,
+        ground: &mut G,
+    ) -> anyhow::Result<Option<Anew>> {
+        for (bytes, number) in &mut self.lines {
+            let line = Line {
+                bytes: bytes?,
+                number,
+            };
+            match line.step(rt, ground) {
+                Ok(Step::Nothing) => {}
+                Ok(Step::Anew(change)) => return Ok(Some(Anew { line, change })),
+                Ok(Step::Answered(answer)) => self.report.tell(rt, &line, Ok(answer))?,
+                Err(stop) => self.report.tell(rt, &line, Err(stop))?,
             }
         }
-        Ok(())
+        Ok(None)
     }
 
-    fn answer(&self, rt: &HostRuntime, words: &str) -> anyhow::Result<()> {
-        let command = self.command();
-        println!(rt; "{command} -> {words}")?;
-        Ok(())
-    }
-}
-
-// The command of a line, or what a line without one comes to.
-pub fn command_of(
-    heap: Global,
-    line: Option<&str>,
-) -> Result<Result<Command<'_>, Outcome>, AllocError> {
-    let Some(line) = line else {
-        return Ok(Err(Outcome::Trouble(String::from_str(heap, "not UTF-8")?)));
-    };
-    match command::parse(command::body(line)) {
-        Ok(Some(command)) => Ok(Ok(command)),
-        Ok(None) => Ok(Err(Outcome::Nothing)),
-        Err(complaint) => Ok(Err(Outcome::Trouble(format!(in heap; "{complaint}")?))),
+    // Tells what a line came to that had them made anew.
+    pub fn tell(
+        &mut self,
+        rt: &HostRuntime,
+        line: &Line,
+        said: Result<Answer, Stop>,
+    ) -> anyhow::Result<()> {
+        self.report.tell(rt, line, said)
     }
 }
