@@ -17,11 +17,11 @@ FORMS = {
         r"^\s*(Ok\(.*\)|Err\(.*\)|Some\(.*\)|None) => (return )?(Ok|Err|Some|None)\b",
         r"^\s*(pub )?fn (put|replace|fill)\b.*-> bool",
         r"-> Result<(Result|Option)<|-> (anyhow::)?Result<Option<Outcome>>|-> Option<Outcome>",
-        r"^\s*make: Make,$|^\s*(pub )?full: bool|\bslots: \[u32; 16\],|-> Result<i32",
+        r"^\s*make: Make,$|^\s*(pub )?full: bool|\bslots: \[u\d+; 16\],|-> Result<i32",
         r"^\s*Refused\(Refusal\),$",
     ],
     # a loop over an index, and a place that is moved on by hand
-    "loop": [r"^\s*(for \w+ in [^{]*\.\.|while |loop \{)", r"^\s*(at|end) [+-]= "],
+    "loop": [r"^\s*(for .* in [^{]*(\.\.|enumerate\(\))|while |loop \{)", r"^\s*(at|end) [+-]= "],
     # conversion, comparison and printing by hand
     "convert": [
         r"\bfn (name|number|numbered|node_numbered|number_of|peer_of|way_from|role_of|role_number|at_node|told|done|refused|signed|yes_no|of)\b",
