@@ -4,15 +4,15 @@ use Rattle.std.proofs.Common.{arith}
 use Rattle.std.proofs.lemmas.List.{length-map, length-take-le, length-append}
 use Rattle.std.proofs.ByRecursion.{All-map, All-append}
 use Rattle.std.specs.List.{AllByRecursion}
+use Rattle.queue.specs.declared.Ring.{Ring}
 use Rattle.queue.specs.Queue.{contents}
 use Rattle.queue.proofs.Rounds.{contents-within}
 use Rattle.link.specs.declared.Way.{Way}
 use Rattle.link.specs.declared.Way.TheVariants.{ZeroToOne, OneToZero}
 use Rattle.link.specs.declared.frame.Frame.{Frame}
-use Rattle.link.specs.declared.lanes.Lane.{Lane}
 use Rattle.link.specs.declared.lanes.Lanes.{Lanes}
 use Rattle.link.specs.Channel.{Channel, Ways, Sound, SoundChannel, IsFrame, queued, waiting}
-use Rattle.link.specs.Makes.{bytes_of, lane_frames, ways_of, slot_channel, behind, extended}
+use Rattle.link.specs.Makes.{bytes_of, frames_of, ways_of, slot_channel, behind, extended}
 
 pub bytes_length : (f : Frame) → length (bytes_of f) ≡ f.len
 bytes_length f = length-take-le _ _ (omega (arith, f.within, f.whole))
@@ -24,19 +24,19 @@ pub frames_sized : (fs : List Frame) → AllByRecursion (λ f. IsFrame (bytes_of
 frames_sized [] = tt
 frames_sized (f ∷ fs) = (frame_sized f, frames_sized fs)
 
-pub lane_sized : {n : ℕ} (l : Lane n) → AllByRecursion IsFrame (lane_frames l)
-lane_sized l = All-map IsFrame bytes_of _ (frames_sized (contents l.frames l.ring))
+pub ring_sized : (slots : List Frame) (ring : Ring) → AllByRecursion IsFrame (frames_of slots ring)
+ring_sized slots ring = All-map IsFrame bytes_of _ (frames_sized (contents slots ring))
 
 pub ways_sized : {n : ℕ} (l : Lanes n) (y : Way) → AllByRecursion IsFrame (queued (ways_of l) y)
-ways_sized l ZeroToOne = lane_sized l.ahead
-ways_sized l OneToZero = lane_sized l.back
+ways_sized l ZeroToOne = ring_sized l.ahead.frames l.ahead.ring
+ways_sized l OneToZero = ring_sized l.back.frames l.back.ring
 
-pub lane_within : {n : ℕ} (l : Lane n) → length (lane_frames l) ≤ n
-lane_within l = omega (arith, length-map (contents l.frames l.ring) bytes_of, contents-within l.frames l.ring, l.places)
+pub ring_within : (slots : List Frame) (ring : Ring) (n : ℕ) → length slots ≡ n → length (frames_of slots ring) ≤ n
+ring_within slots ring n e = omega (arith, length-map (contents slots ring) bytes_of, contents-within slots ring)
 
 pub ways_within : {n : ℕ} (l : Lanes n) (y : Way) → length (queued (ways_of l) y) ≤ n
-ways_within l ZeroToOne = lane_within l.ahead
-ways_within l OneToZero = lane_within l.back
+ways_within l ZeroToOne = ring_within l.ahead.frames l.ahead.ring _ l.ahead.places
+ways_within l OneToZero = ring_within l.back.frames l.back.ring _ l.back.places
 
 pub behind-queued : (p q : Ways) (y : Way) → queued (behind p q) y ≡ queued p y ++ queued q y
 behind-queued p q ZeroToOne = refl
