@@ -22,6 +22,7 @@ const FLAG: Limit = Limit { least: 0, most: 1 };
 
 const SLOTS: Limit = Limit { least: 4, most: 16 };
 
+// Identifiers are numbers, 0 for none, as the card's format has them.
 #[derive(Clone, Copy, PartialEq, Eq, Debug)]
 pub struct Generation {
     pub current: u32,

@@ -17,7 +17,7 @@ pub fn data_blocks(count: usize) -> Result<u32, Refusal>
     }
 }
 
-// 0 asks for the default.
+// 0 asks for the default, as the rules of making a card have it.
 fn slots_in_use(slots: usize) -> Result<u32, Refusal>
     ensures { result ≡ slots_in_use slots }
 {

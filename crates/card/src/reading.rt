@@ -39,7 +39,7 @@ pub fn read_block<D: Device>(device: &D, block: usize) -> Result<[u8; 512], Refu
     Ok(bytes)
 }
 
-// The card of a node, whose number a fault in its metadata names.
+// The card of a node, whose number a fault in its metadata names: any number, so that nothing is refused here that was not.
 pub fn read_card<D: Device>(device: &D, node: usize) -> Result<Card, Refusal>
     ensures { told_of result ≡ card_answer (D.Device.means device.now).disk node }
 {

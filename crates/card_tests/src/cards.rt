@@ -21,7 +21,7 @@ const CARDS: [(usize, usize, Result<u32, Refusal>); 10] = [
     (4100, 0, Err(Refusal::Measure)),
 ];
 
-// The slots of the card that is made of a device of so many blocks.
+// The slots of the card that is made of a device of so many blocks, or its refusal; the outer failure is the test's own.
 fn made(heap: Global, blocks: usize, slots: usize) -> Result<Result<u32, Refusal>, Fail> {
     let mut area = vec![in heap; 0u8; blocks.min(4100) * 512]?;
     let Ok(mut device) = Flat::new(area.as_mut_slice()) else {

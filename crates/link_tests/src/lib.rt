@@ -64,6 +64,7 @@ mod tests {
             }
         }
 
+        // A list takes memory, which may fail: so an answer comes inside a Result of its own.
         fn run(&mut self, op: Op) -> Result<Answer, Fail> {
             match op {
                 Op::Send(way, len, fill) => return self.send(way, len, fill),
@@ -207,7 +208,7 @@ mod tests {
         Ok(())
     }
 
-    // The number of the refusal, 0 for none.
+    // The number of the refusal, so that it is pinned; 0 for none.
     fn refused(answer: Result<(), LinkFault>) -> u8 {
         answer
             .err()

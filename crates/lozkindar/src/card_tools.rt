@@ -112,6 +112,7 @@ pub fn list<D: Device>(device: &D, node: usize, lines: &mut String) -> Result<()
     Ok(())
 }
 
+// A flag as a person reads it: the Display of a bool says true and false.
 fn yes_no(flag: bool) -> &'static str {
     if flag { "yes" } else { "no" }
 }

@@ -1,4 +1,5 @@
 // The command language: one command a line, its words parted by spaces.
+use card::making::data_blocks;
 use compare::{Role, Side};
 use refusal::Refusal;
 use std::str::FromStr;
@@ -134,7 +135,7 @@ impl FromStr for LinkKind {
 impl CardPlan {
     // 4 to 4,099 blocks, and 4 to 16 slots, where 0 asks for the default.
     fn fits(self) -> bool {
-        matches!(self.blocks, 4..=4_099) && matches!(self.slots, 0 | 4..=16)
+        data_blocks(self.blocks).is_ok() && matches!(self.slots, 0 | 4..=16)
     }
 }
 

@@ -15,6 +15,8 @@ use refusal::Refusal;
 use station::Seat;
 use writing::write;
 
+// A node is given by a number, and another number than 0 or 1 is refused here: the callers are scripts.
+
 // The two stations differ in type, so no closure can take either: a call on one of them is a macro.
 
 // A call from the seat of the node of a number.

@@ -43,6 +43,7 @@ pub enum Ask {
     Enter(State),
 }
 
+// What is answered, by the numbers of refusals and states, so that the tables pin these too.
 #[derive(Clone, Copy, PartialEq, Eq, Debug)]
 pub enum Told {
     Done,

@@ -7,6 +7,7 @@ ghost use Rattle.std.specs.List.{slice_get};
 ghost use Rattle.queue.specs.Queue.{contents, vacant, has_room, with_one, oldest, younger, ahead, start_of, place_of};
 
 // Which of the slots are in use: from the `first` on, round the end, `used` of them.
+// The slots are lent for each call, and not held beside it, so that one text serves all that hold slots.
 // Every value has a meaning over every slice: a `first` past the slots means 0, and a `used` above their number means all.
 #[derive(Clone, Copy, PartialEq, Eq, Debug)]
 pub struct Ring {
