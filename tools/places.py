@@ -42,7 +42,6 @@ FORMS = {
 
 
 def files(commit):
-    pattern = ["crates/*/src/*.rt", "crates/*/src/**/*.rt"]
     command = ["git", "ls-files"] if commit is None else ["git", "ls-tree", "-r", "--name-only", commit]
     names = subprocess.run(command, capture_output=True, text=True, check=True).stdout.split("\n")
     for name in names:
