@@ -1,9 +1,7 @@
--- What the definitions say of a list by its last element, and of a byte written out.
-use Rattle.std.proofs.Common.{◌≡◌, ℕ, ◌+◌, ◌-◌, ◌<◌, ◌≤◌, true, false, List, [], ◌∷◌, ◌++◌, length, get_or, take, codes, sym, refl, ap, ◌∙◌, arith, ne_eqb, ◌^◌}
+-- What the definitions say of a list by its last element.
+use Rattle.std.proofs.Common.{◌≡◌, ℕ, ◌+◌, ◌-◌, ◌≤◌, List, [], ◌∷◌, ◌++◌, length, get_or, take, sym, refl, ap, ◌∙◌, arith, ne_eqb}
 use Rattle.std.proofs.lemmas.List.{take_all, take_more}
-use Rattle.std.proofs.lemmas.Fmt.{hex_byte}
-use Rattle.std.specs.Fmt.{digits, padded_integral, format_spec}
-use Rattle.text.specs.Text.{plain, trimmed_of, joined_to, spelled}
+use Rattle.text.specs.Text.{trimmed_of, joined_to}
 
 trimmed_zero : (xs : List ℕ) → trimmed_of (xs ++ 0 ∷ []) ≡ trimmed_of xs
 trimmed_zero [] = refl
@@ -28,8 +26,3 @@ trim_goes xs h e =
 pub trim_stays : (xs : List ℕ) → 1 ≤ length xs → (get_or xs (length xs - 1) 0 ≡ 0 → ⊥) → xs ≡ trimmed_of xs
 trim_stays xs h e =
     let t = last_apart xs h in t ∙ sym (ap trimmed_of t ∙ trimmed_kept (take (length xs - 1) xs) (get_or xs (length xs - 1) 0) e)
-
--- a byte written out
-pub spelled_hex : (b : ℕ) → b < 256 → plain b ≡ false
-    → spelled b ≡ codes "\\x" ++ padded_integral (format_spec 32 0 4 2 (2 ^ 64 - 1)) false [] (digits 16 true b)
-spelled_hex b h p = (simp p) ∙ ap (λ (z : List ℕ). codes "\\x" ++ z) (sym (hex_byte true b h))
