@@ -26,11 +26,16 @@ impl<D: Device, L: Link> Cards<D, L> {
     }
 
     // What a line comes to that had the devices and the link made anew.
-    fn begin(&mut self, change: Change) -> Result<Answer, Stop> {
+    fn begin(&mut self, rt: &HostRuntime, change: Change) -> Result<Answer, Stop> {
         match change {
             Change::New(plan) => {
                 create(&mut self.zero, plan.zero.slots)?;
                 create(&mut self.one, plan.one.slots)?;
+            }
+            Change::Load { node, file } => {
+                let card = self.card(node);
+                let bytes = card_tools::card_in(rt, file.as_str(), card.count())?;
+                card_tools::put(card, 0, bytes.as_slice())?;
             }
             Change::Put { node, block, bytes } => {
                 card_tools::put(self.card(node), block, bytes.as_slice())?;
@@ -39,13 +44,14 @@ impl<D: Device, L: Link> Cards<D, L> {
         Ok(Answer::Done)
     }
 
+    // The file is looked at first, so that one that is no card leaves the devices and the link as they are; its bytes are read
+    // when these are made anew.
     fn load(&mut self, rt: &HostRuntime, node: usize, file: &str) -> Result<Change, Stop> {
         let node = Node::try_from(node)?;
-        let bytes = card_tools::card_in(rt, file, self.card(node).count())?;
-        Ok(Change::Put {
+        card_tools::card_in(rt, file, self.card(node).count())?;
+        Ok(Change::Load {
             node,
-            block: 0,
-            bytes,
+            file: String::from_str(rt.alloc(), file)?,
         })
     }
 
@@ -97,8 +103,8 @@ impl<D: Device + Drop, L: Link + Drop> Cards<D, L> {
         first: Anew,
     ) -> anyhow::Result<Option<Anew>> {
         let Anew { line, change } = first;
-        let said = self.begin(change);
-        script.tell(rt, &line, said)?;
+        let said = self.begin(rt, change);
+        script.tell(rt, line, said)?;
         script.follow(rt, &mut self)
     }
 }

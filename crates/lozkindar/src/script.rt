@@ -66,6 +66,11 @@ impl From<AllocError> for Stop {
 #[derive(Drop)]
 pub enum Change {
     New(Plan),
+    // A file's bytes onto a card.
+    Load {
+        node: Node,
+        file: String,
+    },
     // Whole blocks onto a card, from one on.
     Put {
         node: Node,
@@ -98,6 +103,11 @@ impl Line {
     fn body(&self) -> Result<&str, Complaint> {
         let text = str::from_utf8(self.bytes.as_slice()).map_err(|_| Complaint::NotText)?;
         Ok(command::body(text.trim_end_matches('\r')))
+    }
+
+    // The command as it is printed before its answer; none where the line is not text.
+    fn command(&self) -> &str {
+        self.body().unwrap_or("")
     }
 
     fn step<G: Ground>(&self, rt: &HostRuntime, ground: &mut G) -> Result<Step, Stop> {
@@ -134,12 +144,14 @@ impl Report {
         line: &Line,
         said: Result<Answer, Stop>,
     ) -> anyhow::Result<()> {
-        let command = line.body().unwrap_or("");
+        // Trouble is told by the line's number: so only an answer looks for the command.
         match said {
-            Ok(Answer::Done) => println!(rt; "{command} -> ok")?,
-            Ok(Answer::Value(value)) => println!(rt; "{command} -> ok {value}")?,
-            Ok(Answer::Told { answer, lines }) => print!(rt; "{command} -> {answer}\n{lines}")?,
-            Err(Stop::Refused(refusal)) => println!(rt; "{command} -> {refusal}")?,
+            Ok(Answer::Done) => println!(rt; "{} -> ok", line.command())?,
+            Ok(Answer::Value(value)) => println!(rt; "{} -> ok {value}", line.command())?,
+            Ok(Answer::Told { answer, lines }) => {
+                print!(rt; "{} -> {answer}\n{lines}", line.command())?
+            }
+            Err(Stop::Refused(refusal)) => println!(rt; "{} -> {refusal}", line.command())?,
             Err(Stop::Complaint(complaint)) => self.trouble(rt, line, complaint)?,
             Err(Stop::Trouble(what)) => self.trouble(rt, line, what)?,
             Err(Stop::Memory(error)) => return Err(error.into()),
@@ -199,13 +211,13 @@ impl<B: BufRead + Drop> Script<B> {
         Ok(None)
     }
 
-    // Tells what a line came to that had them made anew.
+    // Tells what a line came to that had them made anew, and lets the line go before more are read.
     pub fn tell(
         &mut self,
         rt: &HostRuntime,
-        line: &Line,
+        line: Line,
         said: Result<Answer, Stop>,
     ) -> anyhow::Result<()> {
-        self.report.tell(rt, line, said)
+        self.report.tell(rt, &line, said)
     }
 }
