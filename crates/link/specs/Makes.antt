@@ -1,5 +1,5 @@
 -- What the makes of link mean, by what they hold.
-use Rattle.std.specs.Prelude.{◌≡◌, ℕ, ◌+◌, ◌<◌, Bool, true, cond, List, ◌++◌, map, length, take, Some, None, Option, Ok, Err, Result, nat_lt}
+use Rattle.std.specs.Prelude.{◌≡◌, ℕ, ◌+◌, ◌<◌, Bool, true, cond, List, ◌++◌, map, length, take, Some, None, Option, Ok, Err, Result, nat_le, nat_lt}
 use Rattle.queue.specs.declared.Ring.{Ring}
 use Rattle.queue.specs.Queue.{contents}
 use Rattle.link.specs.declared.LinkFault.{LinkFault}
@@ -40,7 +40,6 @@ slot_channel is_open lanes = record { is_open = is_open; waits = ways_of lanes; 
 abbrev pub behind : Ways → Ways → Ways
 behind q own = record { ahead = q.ahead ++ own.ahead; back = q.back ++ own.back }
 
--- a hop, by what its lower link means and its own frames
 abbrev pub extended : Channel → Ways → Channel
 extended c own = record { is_open = c.is_open; waits = behind c.waits own; capacity = c.capacity + 4 }
 
@@ -48,3 +47,8 @@ extended c own = record { is_open = c.is_open; waits = behind c.waits own; capac
 pub record Shifted (c : Channel) (own : Ways) (y : Way) (after : Channel) (left : Ways) : Type 0 where
   pub same : c.is_open ≡ true → extended after left ≡ extended c own
   pub room : c.is_open ≡ true → length (waiting after y) < after.capacity → length (queued left y) < 4
+
+-- A hop, by what its lower link means and its own frames.
+-- No hop is made over a capacity above 999,996; one that stood there would mean its lower link alone.
+unfoldable pub hop_channel : Channel → Ways → Channel
+hop_channel c own = cond (nat_le c.capacity 999996) (extended c own) c

@@ -1,6 +1,7 @@
 -- What holds of every link holds of each make.
-use Rattle.std.specs.Prelude.{◌≡◌, ℕ, ◌≤◌, Bool, List, [], ◌∷◌, ◌++◌, length, refl}
-use Rattle.std.proofs.Common.{arith}
+use Rattle.std.specs.Prelude.{◌≡◌, ℕ, ◌<◌, ◌≤◌, Bool, List, [], ◌∷◌, ◌++◌, length, refl}
+use Rattle.std.proofs.Common.{sym, subst, ⊎_elim, arith}
+use Rattle.std.proofs.lemmas.Bool.{le-leb, lt-leb, cases_lt, cond-true, cond-false}
 use Rattle.std.proofs.lemmas.List.{length-map, length-take-le, length-append}
 use Rattle.std.proofs.ByRecursion.{All-map, All-append}
 use Rattle.std.specs.List.{AllByRecursion}
@@ -12,7 +13,7 @@ use Rattle.link.specs.declared.Way.TheVariants.{ZeroToOne, OneToZero}
 use Rattle.link.specs.declared.frame.Frame.{Frame}
 use Rattle.link.specs.declared.lanes.Lanes.{Lanes}
 use Rattle.link.specs.Channel.{Channel, Ways, Sound, SoundChannel, IsFrame, queued, waiting}
-use Rattle.link.specs.Makes.{bytes_of, frames_of, ways_of, slot_channel, behind, extended}
+use Rattle.link.specs.Makes.{bytes_of, frames_of, ways_of, slot_channel, behind, extended, hop_channel}
 
 pub bytes_length : (f : Frame) → length (bytes_of f) ≡ f.len
 bytes_length f = length-take-le _ _ (omega (arith, f.within, f.whole))
@@ -42,6 +43,14 @@ pub behind-queued : (p q : Ways) (y : Way) → queued (behind p q) y ≡ queued 
 behind-queued p q ZeroToOne = refl
 behind-queued p q OneToZero = refl
 
+pub hop_low : (c : Channel) (q : Ways) → c.capacity ≤ 999996 → hop_channel c q ≡ extended c q
+unfolding hop_channel
+hop_low c q h = cond-true _ _ _ (le-leb _ _ h)
+
+pub hop_high : (c : Channel) (q : Ways) → 999996 < c.capacity → hop_channel c q ≡ c
+unfolding hop_channel
+hop_high c q h = cond-false _ _ _ (lt-leb _ _ h)
+
 pub extended_sound : (c : Channel) (q : Ways) → Sound c → c.capacity ≤ 999996 → ((y : Way) → length (queued q y) ≤ 4) → ((y : Way) → AllByRecursion IsFrame (queued q y))
     → Sound (extended c q)
 extended_sound c q s h k a =
@@ -52,6 +61,13 @@ extended_sound c q s h k a =
       frames = λ y. rw behind-queued (All-append IsFrame (waiting c y) (queued q y) (s.frames y) (a y));
     }
 
+pub hop_sound : (c : Channel) (q : Ways) → Sound c → ((y : Way) → length (queued q y) ≤ 4) → ((y : Way) → AllByRecursion IsFrame (queued q y)) → Sound (hop_channel c q)
+hop_sound c q s k a =
+    ⊎_elim
+    (λ h. subst Sound (sym (hop_high c q h)) s)
+    (λ h. subst Sound (sym (hop_low c q h)) (extended_sound c q s h k a))
+    (cases_lt 999996 c.capacity)
+
 abbrev pub slot_means : Bool → Lanes 8 → SoundChannel
 slot_means is_open lanes =
     record {
@@ -59,9 +75,9 @@ slot_means is_open lanes =
       sound = record { least = omega arith; most = omega arith; within = ways_within lanes; frames = ways_sized lanes };
     }
 
-abbrev pub hop_means : (lower : SoundChannel) → Lanes 4 → lower.channel.capacity ≤ 999996 → SoundChannel
-hop_means lower lanes low =
+abbrev pub hop_means : SoundChannel → Lanes 4 → SoundChannel
+hop_means lower lanes =
     record {
-      channel = extended lower.channel (ways_of lanes);
-      sound = extended_sound lower.channel (ways_of lanes) lower.sound low (ways_within lanes) (ways_sized lanes);
+      channel = hop_channel lower.channel (ways_of lanes);
+      sound = hop_sound lower.channel (ways_of lanes) lower.sound (ways_within lanes) (ways_sized lanes);
     }

@@ -1,9 +1,9 @@
 // The hop: a layer over any link that holds four more frames each way.
 // Its waiting frames are the lower link's followed by its own.
-ghost use Rattle.std.specs.Prelude.{◌≡◌, ◌≤◌, length, is_ok, MatchResult, nat_le, nat_lt};
+ghost use Rattle.std.specs.Prelude.{◌≡◌, length, is_ok, MatchResult, nat_le, nat_lt};
 ghost use Rattle.refusal.specs.declared.Refusal.TheVariants.{Measure};
 ghost use Rattle.link.specs.Channel.{waiting, nothing};
-ghost use Rattle.link.specs.Makes.{ways_of, extended, Shifted};
+ghost use Rattle.link.specs.Makes.{ways_of, extended, hop_channel, Shifted};
 ghost use Rattle.link.specs.Soundness.{hop_means};
 
 use crate::frame::Frame;
@@ -17,11 +17,9 @@ const PLACES: usize = 4;
 const MOST_BELOW: usize = 999_996;
 
 #[derive(Drop)]
-pub struct Hop<L: Link> {
+pub struct Hop<L> {
     lower: L,
     lanes: Lanes<PLACES>,
-    // No call changes what a link's capacity is.
-    ghost low: { (L.Link.means lower).channel.capacity ≤ 999996 },
 }
 
 // No hop was made: why, and the link that was to be below it.
@@ -32,9 +30,10 @@ pub struct NotMade<L> {
 }
 
 impl<L: Link> Hop<L> {
+    #[tactic(auto, unfolding(crate::specs::Makes::hop_channel))]
     pub fn new(lower: L) -> Result<Hop<L>, NotMade<L>>
         ensures when { is_ok result ≡ nat_le (L.Link.means lower).channel.capacity 999996 }
-        ensures made { MatchResult result (λ h. (h.lower ≡ lower) × (extended (L.Link.means lower).channel (ways_of h.lanes) ≡ extended (L.Link.means lower).channel nothing)) (λ e. (e.refusal ≡ Measure) × (e.lower ≡ lower)) }
+        ensures made { MatchResult result (λ h. (h.lower ≡ lower) × (hop_channel (L.Link.means lower).channel (ways_of h.lanes) ≡ extended (L.Link.means lower).channel nothing) × (extended (L.Link.means lower).channel (ways_of h.lanes) ≡ extended (L.Link.means lower).channel nothing)) (λ e. (e.refusal ≡ Measure) × (e.lower ≡ lower)) }
     {
         if lower.capacity() > MOST_BELOW {
             return Err(NotMade {
@@ -54,6 +53,13 @@ impl<L: Link> Hop<L> {
     {
         let Hop { lower, lanes: _ } = self;
         lower
+    }
+
+    // No hop is made over so large a link: if one were, it would only pass its calls on.
+    fn passes(&self) -> bool
+        ensures { result ≡ nat_lt 999996 (L.Link.means self.now.lower).channel.capacity }
+    {
+        self.lower.capacity() > MOST_BELOW
     }
 
     // Whether the lower link has room.
@@ -78,23 +84,35 @@ impl<L: Link> Hop<L> {
     }
 }
 
+#[tactic(auto, unfolding(crate::specs::Makes::hop_channel))]
 impl<L: Link> Link for Hop<L> {
-    ghost means = { λ s. hop_means (L.Link.means s.lower) s.lanes s.low };
+    ghost means = { λ s. hop_means (L.Link.means s.lower) s.lanes };
 
     fn is_open(&self) -> bool {
         self.lower.is_open()
     }
 
     fn capacity(&self) -> usize {
-        self.lower.capacity() + PLACES
+        let below = self.lower.capacity();
+        if below > MOST_BELOW {
+            below
+        } else {
+            below + PLACES
+        }
     }
 
     fn count(&self, way: Way) -> usize {
+        if self.passes() {
+            return self.lower.count(way);
+        }
         self.lower.count(way) + self.lanes.count(way)
     }
 
-    #[tactic(auto, using(crate::proofs::Sends::sent_capacity), unfolding(crate::specs::Channel::send_answer, crate::specs::Channel::sent))]
+    #[tactic(auto, using(crate::proofs::Sends::sent_capacity), unfolding(crate::specs::Makes::hop_channel, crate::specs::Channel::send_answer, crate::specs::Channel::sent))]
     fn send(&mut self, way: Way, frame: &[u8]) -> Result<(), LinkFault> {
+        if self.passes() {
+            return self.lower.send(way, frame);
+        }
         // Straight on while nothing of its own waits.
         if self.lower_takes(way) && self.lanes.count(way) == 0 {
             return self.lower.send(way, frame);
@@ -108,6 +126,9 @@ impl<L: Link> Link for Hop<L> {
     }
 
     fn take(&mut self, way: Way) -> Option<Frame> {
+        if self.passes() {
+            return self.lower.take(way);
+        }
         if self.lower.count(way) > 0 {
             return self.lower.take(way);
         }

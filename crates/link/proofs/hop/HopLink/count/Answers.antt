@@ -4,5 +4,5 @@ use Rattle.link.proofs.hop.HopLink.count.Goals as goal
 
 pub overflow_add-result : goal.overflow_add-result
 overflow_add-result g c =
-    let s = c.args.self.now in
-    omega (arith, (g.L.Link.means s.lower).sound.within c.args.way, s.low, ways_within s.lanes c.args.way)
+    let sound = (g.L.Link.means c.args.self.now.lower).sound in
+    omega (arith, sound.within c.args.way, sound.most, ways_within c.args.self.now.lanes c.args.way)
