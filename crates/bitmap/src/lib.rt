@@ -1,7 +1,7 @@
 // The quick-sync bitmap in memory: data block i is bit i mod 8, lowest first, of byte i div 8.
 #![tactic(auto)]
 
-ghost use Rattle.std.specs.Prelude.{ℕ, ◌<◌, slice_index};
+ghost use Rattle.std.specs.Prelude.{◌≡◌, ℕ, ◌<◌, length, slice_index};
 
 mod work;
 
@@ -9,7 +9,8 @@ mod work;
 #[derive(Clone, Copy)]
 pub struct Bitmap {
     bytes: [u8; 512],
-    // The proofs know an array's length, but the range of its elements only where the code reads them.
+    // What callers know of the bytes that `as_bytes` lends.
+    ghost whole: { length bytes ≡ 512 },
     ghost octets: { (k : ℕ) → slice_index bytes k < 256 },
 }
 

@@ -48,6 +48,13 @@ fn the_next_set_bit_is_found_across_bytes(rt: HostRuntime) {
 }
 
 #[test]
+fn block_4095_is_the_last_bit_of_the_last_byte(rt: HostRuntime) {
+    let mut map = Bitmap::new();
+    map.set(4095);
+    assert_eq!(rt; map.as_bytes()[511], 128);
+}
+
+#[test]
 fn a_union_has_the_bits_of_both(rt: HostRuntime) {
     let mut low = Bitmap::new();
     low.mark_all(12);

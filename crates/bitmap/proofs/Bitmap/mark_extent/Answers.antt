@@ -1,4 +1,5 @@
-use Rattle.std.proofs.Common.{◌≡◌, length, arith}
+use Rattle.std.proofs.Common.{◌≡◌, length, ap, ◌∙◌, arith}
+use Rattle.bitmap.proofs.Packing.{length-packed}
 use Rattle.bitmap.proofs.Rows.{joined_none, joined_more, marks_extent, marks_no_extent}
 use Rattle.bitmap.proofs.Bitmap.mark_extent.Goals as goal
 
@@ -18,7 +19,8 @@ pub invariant_of-self : goal.invariant_of-self
 invariant_of-self c =
     let self = c.args.self.now in
     let l : length self.bytes ≡ 512 = omega arith in
-    record { octets = (marks_extent 512 c.args.extent c.args.blocks _ _ c.loop-k.k self.bytes c.loop-k.byte-items l self.octets (omega arith) (omega arith) (omega arith) (omega arith) c.loop-k.invariant).1 }
+    let h = marks_extent 512 c.args.extent c.args.blocks _ _ c.loop-k.k self.bytes c.loop-k.byte-items l self.octets (omega arith) (omega arith) (omega arith) (omega arith) c.loop-k.invariant in
+    record { whole = ap length h.0 ∙ length-packed 512 _; octets = h.1 }
 
 pub returns-else-extent-lt-EXTENTS : goal.returns-else-extent-lt-EXTENTS
 returns-else-extent-lt-EXTENTS c =

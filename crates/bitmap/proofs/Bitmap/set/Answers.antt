@@ -1,4 +1,5 @@
 use Rattle.std.proofs.Common.{◌≡◌, ℕ, ◌/◌, length, get_or, set, ap, ◌∙◌, arith}
+use Rattle.std.proofs.lemmas.List.{length-set}
 use lib.Bits.{bit_or, or_lt}
 use Rattle.bitmap.proofs.Packing.{sets, sets_none, octets_set}
 use Rattle.bitmap.proofs.Bitmap.set.Goals as goal
@@ -17,4 +18,4 @@ returns-else-i-lt-BITS c =
 pub invariant_of-self : goal.invariant_of-self
 invariant_of-self c =
     let self = c.args.self.now in
-    record { octets = octets_set self.bytes (c.args.i / 8) _ self.octets (or_lt 8 _ _ (self.octets (c.args.i / 8)) c.mask.type_inv) }
+    record { whole = length-set self.bytes _ _ ∙ self.whole; octets = octets_set self.bytes (c.args.i / 8) _ self.octets (or_lt 8 _ _ (self.octets (c.args.i / 8)) c.mask.type_inv) }
