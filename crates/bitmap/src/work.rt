@@ -6,7 +6,6 @@ ghost use Rattle.bitmap.specs.Bytes.{bytes_of, read_answer};
 
 use crate::{Bitmap, BitmapFault};
 use std::array;
-use std::cmp::Ordering;
 
 const BYTES: usize = 512;
 
@@ -26,10 +25,14 @@ fn mask(i: usize) -> u8
 fn below(blocks: usize, k: usize) -> u8
     ensures { result ≡ 2 ^ (min 8 (blocks - k * 8)) - 1 }
 {
-    match k.cmp(&(blocks / 8)) {
-        Ordering::Less => 255,
-        Ordering::Equal => (1 << (blocks % 8)) - 1,
-        Ordering::Greater => 0,
+    // By two comparisons: `cmp` takes `mark_all` twice the time.
+    let full = blocks / 8;
+    if k < full {
+        255
+    } else if k > full {
+        0
+    } else {
+        (1 << (blocks % 8)) - 1
     }
 }
 
