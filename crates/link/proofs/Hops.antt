@@ -1,5 +1,5 @@
 -- A frame that goes from a hop to its lower link.
-use Rattle.std.proofs.Common.{◌≡◌, ℕ, ◌+◌, ◌<◌, ◌≤◌, List, [], ◌∷◌, length, Some, refl, ap, append_assoc, arith}
+use Rattle.std.proofs.Common.{◌≡◌, ℕ, ◌+◌, ◌<◌, ◌≤◌, List, [], ◌∷◌, length, Some, sym, refl, ap, append_assoc, arith}
 use Rattle.queue.specs.Queue.{oldest, younger}
 use Rattle.link.specs.declared.Way.{Way}
 use Rattle.link.specs.declared.Way.TheVariants.{ZeroToOne, OneToZero}
@@ -29,6 +29,6 @@ shifted c x p q y g b l h a d e m =
     let all = oldest_some (queued q y) (bytes_of g) a in
     let F : Ways → Channel = λ z. record { is_open = c.is_open; waits = z; capacity = c.capacity + 4 } in
     record {
-      same = λ o. rw (m, e, send_done c y (bytes_of g) (frame_sized g) o l, d) (ap F (behind_shifted c.waits q y (bytes_of g) all));
+      same = λ o. rw (m, e, sym (send_done c y (bytes_of g) (frame_sized g) o l).1, d) (ap F (behind_shifted c.waits q y (bytes_of g) all));
       room = λ _ _. omega (arith, ap length all, ap (λ (z : Ways). length (queued z y)) d, ap length (queued_less q y));
     }

@@ -1,5 +1,5 @@
 -- The cases of a send, over every channel.
-use Rattle.std.proofs.Common.{◌≡◌, ℕ, ◌<◌, true, false, cond, List, length, is_ok, refl}
+use Rattle.std.proofs.Common.{◌≡◌, ℕ, ◌<◌, true, false, cond, List, length, is_ok, Ok, refl}
 use Rattle.std.proofs.lemmas.Bool.{lt-ltb}
 use Rattle.std.proofs.lemmas.Bool.Decides.{nat_tests}
 use Rattle.std.proofs.Common.{arith}
@@ -10,9 +10,9 @@ is_frame_lem : (f : List ℕ) → IsFrame f → is_frame f ≡ true
 is_frame_lem f h = let a = h.0 in let b = h.1 in grind (arith, nat_tests)
 
 pub send_done : (c : Channel) (y : Way) (f : List ℕ) → IsFrame f → c.is_open ≡ true → length (waiting c y) < c.capacity
-    → sent c y f ≡ holding c (one_more c.waits y f)
+    → (Ok tt ≡ send_answer c y f) × (holding c (one_more c.waits y f) ≡ sent c y f)
 unfolding send_answer sent
-send_done c y f h o l = let e = is_frame_lem f h in let t = lt-ltb (length (waiting c y)) c.capacity l in simp (e, o, t)
+send_done c y f h o l = let e = is_frame_lem f h in let t = lt-ltb (length (waiting c y)) c.capacity l in (simp (e, o, t), simp (e, o, t))
 
 -- a send leaves the capacity as it is
 pub sent_capacity : (c : Channel) (y : Way) (f : List ℕ) → (sent c y f).capacity ≡ c.capacity

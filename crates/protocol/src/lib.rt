@@ -94,7 +94,7 @@ impl fmt::Display for State {
     ghost output = { λ state. Some (state_name state) };
 
     fn fmt<W: fmt::Write>(&self, f: &mut fmt::Formatter<W>) -> fmt::Result {
-        f.write_str(self.name())
+        f.write_str(State::name(*self))
     }
 }
 
@@ -128,7 +128,7 @@ impl fmt::Display for Standing {
     ghost output = { λ standing. Some (standing_name standing) };
 
     fn fmt<W: fmt::Write>(&self, f: &mut fmt::Formatter<W>) -> fmt::Result {
-        f.write_str(self.name())
+        f.write_str(Standing::name(*self))
     }
 }
 
