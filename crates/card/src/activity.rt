@@ -1,5 +1,5 @@
 // The activity record, a card's block 1.
-ghost use Rattle.std.specs.Prelude.{ℕ, ◌^◌, ◌<◌, slice_index};
+ghost use Rattle.std.specs.Prelude.{◌≡◌, ℕ, ◌^◌, ◌<◌, length, slice_index};
 
 mod log;
 
@@ -9,5 +9,6 @@ mod log;
 #[derive(Clone, Copy)]
 pub struct Activity {
     slots: [u64; 16],
+    ghost whole: { length slots ≡ 16 },
     ghost small: { (slot : ℕ) → slice_index slots slot < 2 ^ 32 },
 }

@@ -1,5 +1,5 @@
 // The sixteen slots of the activity record in the order of their use, the least recent first.
-ghost use Rattle.std.specs.Prelude.{◌≡◌, ◌<◌, ◌==◌, IfSome, position, slice_index};
+ghost use Rattle.std.specs.Prelude.{◌≡◌, ◌<◌, ◌==◌, length, IfSome, position, slice_index};
 ghost use Rattle.protocol.specs.World.{in_turn};
 ghost use Rattle.protocol.specs.Activation.{touched};
 
@@ -8,6 +8,7 @@ use std::array;
 #[derive(Clone, Copy)]
 pub struct Recency {
     order: [usize; 16],
+    ghost whole: { length order ≡ 16 },
 }
 
 impl Recency {

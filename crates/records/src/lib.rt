@@ -4,7 +4,6 @@
 ghost use Rattle.std.specs.Prelude.{◌≡◌, [], map, length};
 ghost use Rattle.queue.specs.Queue.{oldest, younger};
 ghost use Rattle.protocol.specs.Activation.{any_of, waiting, waiting_in, ended, marking, eight, with_record};
-ghost use Rattle.records.specs.Kept.{kept, Gives};
 
 use bitmap::Bitmap;
 use protocol::{Standing, WriteRecord};
@@ -27,9 +26,12 @@ const UNUSED: WriteRecord = WriteRecord {
 pub struct Records {
     places: [WriteRecord; 8],
     ring: Ring,
+    ghost whole: { length places ≡ 8 },
 }
 
 impl Records {
+    ghost use Rattle.records.specs.Kept.{kept, Gives};
+
     pub fn none() -> Records
         ensures { kept result ≡ [] }
     {
