@@ -102,19 +102,18 @@ impl<L: Link> Link for Hop<L> {
     }
 
     fn count(&self, way: Way) -> usize {
+        let below = self.lower.count(way);
         if self.passes() {
-            return self.lower.count(way);
+            below
+        } else {
+            below + self.lanes.count(way)
         }
-        self.lower.count(way) + self.lanes.count(way)
     }
 
     #[tactic(auto, using(crate::proofs::Sends::sent_capacity), unfolding(crate::specs::Makes::hop_channel, crate::specs::Channel::send_answer, crate::specs::Channel::sent))]
     fn send(&mut self, way: Way, frame: &[u8]) -> Result<(), LinkFault> {
-        if self.passes() {
-            return self.lower.send(way, frame);
-        }
         // Straight on while nothing of its own waits.
-        if self.lower_takes(way) && self.lanes.count(way) == 0 {
+        if self.passes() || (self.lower_takes(way) && self.lanes.count(way) == 0) {
             return self.lower.send(way, frame);
         }
         let frame = Frame::new(frame)?;
@@ -126,10 +125,7 @@ impl<L: Link> Link for Hop<L> {
     }
 
     fn take(&mut self, way: Way) -> Option<Frame> {
-        if self.passes() {
-            return self.lower.take(way);
-        }
-        if self.lower.count(way) > 0 {
+        if self.passes() || self.lower.count(way) > 0 {
             return self.lower.take(way);
         }
         self.lanes.take(way)
