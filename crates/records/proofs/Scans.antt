@@ -1,11 +1,10 @@
 -- A walk over one record after another, against a recursion over what is left of the list.
-use Rattle.std.proofs.Common.{◌≡◌, ℕ, ◌+◌, ◌≤◌, Bool, cond, ◌||◌, List, [], ◌∷◌, Some, None, Option, ◌++◌, map, length, take, drop, sym, refl, ap, ◌∙◌, arith}
+use Rattle.std.proofs.Common.{◌≡◌, ℕ, suc, ◌+◌, ◌≤◌, Bool, false, cond, ◌||◌, List, [], ◌∷◌, Some, None, Option, ◌++◌, map, length, take, drop, sym, refl, ap, ◌∙◌, add-zero, zero-add, arith}
 use Rattle.std.proofs.lemmas.List.{length-append, length-take, length-drop, length-map, drop_all, take_all, drop_more, append-nil, at_drop_all}
 use Rattle.std.proofs.iter.Yields.{fronts}
 use Rattle.std.proofs.lemmas.Iterator.{YieldsList, YieldsList-from_slice}
 use Rattle.std.proofs.lemmas.Iterator.Consumers.{YieldsList-at, YieldsList-from_chain, YieldsList-turn, YieldsList-end}
-use Rattle.std.proofs.lemmas.List.Recursion.{same_from_clauses}
-use Rattle.std.specs.List.{list_any}
+use Rattle.std.specs.List.{list_any, range_with_len, slice_get}
 use Rattle.std.specs.Iterator.{Yields}
 use Rattle.std.specs.Iterator.Adapters.{chain_steps}
 use denote.Ref.{Bor}
@@ -25,9 +24,21 @@ list_given it began rs e g =
 
 -- ---- is there one that passes a test
 
-pub any_is : (test : WriteRecord → Bool) (rs : List WriteRecord) → list_any test rs ≡ any_of test rs
+abbrev pub passes : (WriteRecord → Bool) → Option WriteRecord → Bool
+passes test None = false
+passes test (Some r) = test r
+
+any_from : (test : WriteRecord → Bool) (on : ℕ → Bool) (from : ℕ) (rs : List WriteRecord) → ((k : ℕ) → on (from + k) ≡ passes test (slice_get rs k)) → list_any on (range_with_len from (length rs)) ≡ any_of test rs
 unfolding any_of
-any_is test = same_from_clauses (list_any test) (any_of test) (λ r b. test r || b) refl (λ _ _. refl) (λ _ _. refl)
+any_from test on from [] h = refl
+any_from test on from (r ∷ rs) h =
+    let here : on from ≡ test r = ap on (sym (add-zero from)) ∙ h 0 in
+    ap (λ (b : Bool). b || list_any on (range_with_len (from + 1) (length rs))) here
+    ∙ ap (λ (b : Bool). test r || b) (any_from test on (from + 1) rs (λ k. ap on (omega arith) ∙ h (suc k)))
+
+-- each place is looked at
+pub any_at : (test : WriteRecord → Bool) (rs : List WriteRecord) → list_any (λ i. passes test (slice_get rs i)) (range_with_len 0 (length rs)) ≡ any_of test rs
+any_at test rs = any_from test _ 0 rs (λ k. ap (λ (i : ℕ). passes test (slice_get rs i)) (zero-add k))
 
 -- ---- marking
 

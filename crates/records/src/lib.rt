@@ -80,16 +80,24 @@ impl Records {
         front.iter().chain(back)
     }
 
+    // By places, here and below: the same search over `iter` takes more than twice as long.
     pub fn any_waiting(&self) -> bool
         ensures { result ≡ any_of waiting (kept self.now) }
     {
-        self.iter().any(|record| record.standing.is_waiting())
+        (0..self.count()).any(|i| {
+            self.ring
+                .look(&self.places, i)
+                .is_some_and(|record| record.standing.is_waiting())
+        })
     }
 
     pub fn any_waiting_in(&self, extent: usize) -> bool
         ensures { result ≡ any_of (waiting_in extent) (kept self.now) }
     {
-        self.iter().any(|record| record.standing.is_waiting() && record.block / EXTENT == extent)
+        (0..self.count()).any(|i| {
+            self.ring.look(&self.places, i).is_some_and(|record| record.standing.is_waiting()
+                && record.block / EXTENT == extent)
+        })
     }
 
     // Sets the bits of the blocks whose writes wait.

@@ -1,12 +1,16 @@
-use Rattle.std.proofs.Common.{◌∙◌, refl, rules}
+use Rattle.std.proofs.Common.{ℕ, length, ap, ◌∙◌, arith, rules}
 use borrow.Author.Tests.{tests}
+use Rattle.std.specs.List.{slice_get}
+use Rattle.std.proofs.lemmas.Iterator.{YieldsList-from_range}
 use Rattle.std.proofs.lemmas.Iterator.Search.{any_from_yields_List}
 use Rattle.protocol.specs.Activation.{waiting_in}
 use Rattle.records.specs.Kept.{kept}
-use Rattle.records.proofs.Scans.{list_given, any_is}
+use Rattle.records.proofs.Scans.{passes, any_at}
 use Rattle.records.proofs.Records.any_waiting_in.Goals as goal
 
 pub returns : goal.returns
 returns c =
+    let rs = kept c.args.self.now in
     let test = waiting_in c.args.extent in
-    any_from_yields_List test _ _ _ c.any.ensures.ran (list_given _ _ _ refl c.iter.ensures) (λ x b q k. search (rules, tests)) ∙ any_is test (kept c.args.self.now)
+    let all = YieldsList-from_range 0 (length rs) (length rs) (ap (λ (n : ℕ). record { start = 0; end = n }) c.count.ensures) (omega arith) in
+    any_from_yields_List (λ i. passes test (slice_get rs i)) _ _ _ c.any.ensures.ran all (λ x b q k. search (rules, tests)) ∙ any_at test rs
