@@ -80,7 +80,7 @@ impl Records {
         front.iter().chain(back)
     }
 
-    // By places, here and below: the same search over `iter` takes more than twice as long.
+    // This search and the next go by places: over `iter` they take more than twice as long.
     pub fn any_waiting(&self) -> bool
         ensures { result ≡ any_of waiting (kept self.now) }
     {
