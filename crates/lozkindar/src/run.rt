@@ -34,6 +34,8 @@ impl<D: Device, L: Link> Cards<D, L> {
             }
             Change::Load { node, file } => {
                 let card = self.card(node);
+                // It may have changed since: it is looked at once more, and then read.
+                card_tools::card_in(rt, file.as_str(), card.count())?;
                 let bytes = card_tools::card_in(rt, file.as_str(), card.count())?;
                 card_tools::put(card, 0, bytes.as_slice())?;
             }
